@@ -1,0 +1,3 @@
+-- What is proved of best plans; docs/PROVED.md lists the main results by name.
+pub mod Sums
+pub mod Order
