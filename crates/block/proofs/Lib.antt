@@ -1,2 +1,5 @@
 pub mod Digits
 pub mod Opened
+pub mod Parts
+pub mod Written
+pub mod Framed

@@ -2,8 +2,10 @@
 // shortest header that counts its bytes. specs/Opening and specs/Framing say what each gives for every input.
 ghost use mathlib.Core.Path.{_≡_};
 ghost use Prim.Native.Nat.{ℕ, _+_, _*_, _≤_, _<_};
-ghost use lib.ListN.{length, getD};
+ghost use mathlib.Core.List.{_++_};
+ghost use lib.ListN.{length, getD, drop};
 ghost use Rattle.block.specs.Opening.{isDigit, endedOf, countedOf, openingOf, payloadOf, openingNumber, openingPlace, openingStart, openingLength};
+ghost use Rattle.block.specs.Framing.{widthOf, digitsOf, Heads, Frames, framingNumber, framingPlace, framingLength};
 use units::Bytes;
 
 // What opening a block finds: one of three refusals, or where the payload starts and how many bytes it has.
@@ -144,6 +146,110 @@ impl Opening {
             Opening::NoDigit => Bytes(0),
             Opening::WrongEnd => Bytes(0),
             Opening::Payload { start: _, length } => length,
+        }
+    }
+}
+
+// What framing a payload comes to: one of two refusals, or how many bytes the block has.
+pub enum Framing {
+    // The payload has more than 7,504 bytes.
+    TooLong,
+    // The area is shorter than the block.
+    NoRoom,
+    Framed(Bytes),
+}
+
+// The fewest digits that write n, which has at most four.
+fn width(n: usize) -> usize
+    ensures { λ r. ⌜ (r ≡ widthOf n) × (r ≤ 4) ⌝ }
+{
+    if n < 10 {
+        return 1;
+    }
+    if n < 100 {
+        return 2;
+    }
+    if n < 1000 { 3 } else { 4 }
+}
+
+// Writes the k last digits of n at the start of `out`, each straight to its position, from the last one up.
+fn put_digits(out: &mut [u8], k: usize, n: usize)
+    requires { ⌜ k ≤ length (now out) ⌝ }
+    ensures { λ _. ⌜ now (out .exit) ≡ digitsOf k n ++ drop k (now (out .entry)) ⌝ }
+{
+    let mut left = n;
+    let mut i = k;
+    while 0 < i {
+        i -= 1;
+        out[i] = (48 + left % 10) as u8;
+        left = left / 10;
+    }
+}
+
+// Writes the header that counts so many bytes at the area's start, and says how many bytes it has. Where the payload is
+// too long to be framed or the area too short for the header, it writes nothing and says 0.
+pub fn put_header(area: &mut [u8], length: Bytes) -> Bytes
+    ensures { λ r. ⌜ Heads (length .0) (now (area .entry)) (r .0) (now (area .exit)) ⌝ }
+{
+    let n = length.0;
+    if 7504 < n {
+        return Bytes(0);
+    }
+    let k = width(n);
+    if area.len() < 2 + k {
+        return Bytes(0);
+    }
+    area[0] = b'#';
+    area[1] = (48 + k) as u8;
+    put_digits(&mut area[2..], k, n);
+    Bytes(2 + k)
+}
+
+// Frames a payload into the lent area (rows 6 and 10). The payload goes into the area's part from the header's end on.
+pub fn frame(payload: &[u8], area: &mut [u8]) -> Framing
+    ensures { λ r. ⌜ Frames (now (payload .entry)) (now (area .entry)) r (now (area .exit)) ⌝ }
+{
+    let n = payload.len();
+    if 7504 < n {
+        return Framing::TooLong;
+    }
+    let whole = 2 + width(n) + n;
+    if area.len() < whole {
+        return Framing::NoRoom;
+    }
+    let header = put_header(area, Bytes(n));
+    let at = header.0;
+    bytes::copy(payload, &mut area[at..]);
+    Framing::Framed(Bytes(whole))
+}
+
+impl Framing {
+    // Document 01's number of the answer; 0 is success.
+    pub fn number(self) -> u32
+        ensures { λ r. ⌜ r ≡ framingNumber self ⌝ }
+    {
+        match self {
+            Framing::TooLong => 6,
+            Framing::NoRoom => 10,
+            Framing::Framed(_) => 0,
+        }
+    }
+
+    // Where it went wrong; framing refuses at 0.
+    pub fn place(self) -> usize
+        ensures { λ r. ⌜ r ≡ framingPlace self ⌝ }
+    {
+        0
+    }
+
+    // How many bytes were written; 0 for a refusal.
+    pub fn length(self) -> Bytes
+        ensures { λ r. ⌜ r .0 ≡ framingLength self ⌝ }
+    {
+        match self {
+            Framing::TooLong => Bytes(0),
+            Framing::NoRoom => Bytes(0),
+            Framing::Framed(length) => length,
         }
     }
 }

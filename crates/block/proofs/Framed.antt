@@ -1,0 +1,86 @@
+-- One law for each way through framing: what the tests that led there make of the definitions in specs/Framing.
+use Prim.Native.Nat.{ℕ, suc, _+_, _-_, _≤_, _<_}
+use mathlib.Core.Path.{_≡_, refl, ap, sym, _∙_}
+use mathlib.Core.List.{List, [], _∷_, _++_, append-assoc}
+use native.Mathlib.Omega.{arith}
+use lib.ListN.{length, take, drop, length-append, length-drop}
+use lib.Seq.{take-length, take-at, drop-at, drop-drop}
+use borrow.Author.Tests.{lt-ltb, le-ltb}
+use borrow.Rule.Slice.PartMut.{midOf, putMid, same-len-mid}
+use Rattle.block.proofs.Parts.{tail-lent, tail-back}
+use Rattle.block.proofs.Written.{length-digits}
+use Rattle.block.specs.declared.Framing.{Framing}
+use Rattle.block.specs.declared.Framing.the-variants.{TooLong, NoRoom, Framed}
+use Rattle.block.specs.Framing.{longest, widthOf, digitsOf, headerOf, blockOf, headerLength, blockLength, framingOf, areaAfter, Frames, Heads}
+
+pub length-header : (n : ℕ) → length (headerOf n) ≡ headerLength n
+unfolding headerOf headerLength
+length-header n = omega (arith, length-digits (widthOf n) n)
+
+pub length-block : (p : List ℕ) → length (blockOf p) ≡ blockLength (length p)
+unfolding blockOf blockLength
+length-block p = length-append (headerOf (length p)) p ∙ ap (λ (h : ℕ). h + length p) (length-header (length p))
+
+-- What a header writer leaves where there is room for it.
+pub record Headed (n : ℕ) (area : List ℕ) (r : ℕ) (after : List ℕ) : Type 0 where
+  pub size : r ≡ headerLength n
+  pub bytes : after ≡ headerOf n ++ drop (headerLength n) area
+
+pub headed : {n r : ℕ} {area after : List ℕ} → Heads n area r after → n ≤ longest → headerLength n ≤ length area → Headed n area r after
+unfolding headerLength
+headed {n} {r} {area} {after} w short fits =
+    let size : r ≡ headerLength n = w .answer ∙ rw (le-ltb longest n short, le-ltb (length area) (headerLength n) fits) refl in
+    record { size = size; bytes = w .bytes ∙ rw (lt-ltb 0 r (omega (arith, size)), size) refl }
+
+module _ (p area : List ℕ) where
+  pub frame-too-long : longest < length p → Frames p area TooLong area
+  unfolding framingOf areaAfter
+  frame-too-long h = record { answer = rw (lt-ltb longest (length p) h); bytes = refl }
+
+  module _ (k : ℕ) (wide : k ≡ widthOf (length p)) (short : length p ≤ longest) where
+    whole : 2 + k + length p ≡ blockLength (length p)
+    unfolding blockLength headerLength
+    whole = ap (λ (w : ℕ). 2 + w + length p) wide
+
+    pub frame-no-room : length area < 2 + k + length p → Frames p area NoRoom area
+    unfolding framingOf areaAfter
+    frame-no-room h =
+        record { answer = rw (le-ltb longest (length p) short, lt-ltb (length area) (blockLength (length p)) (omega (arith, whole))); bytes = refl }
+
+    -- the header is in place, and the payload goes into the part behind it
+    module _ (fits : 2 + k + length p ≤ length area) (r : ℕ) (after : List ℕ) (w : Heads (length p) area r after) where
+      room : headerLength (length p) + length p ≤ length area
+      unfolding blockLength
+      room = omega (arith, whole)
+
+      head : Headed (length p) area r after
+      head = headed w short (omega (arith, room))
+
+      header-size : length (headerOf (length p)) ≡ r
+      header-size = length-header (length p) ∙ sym (head .size)
+
+      behind : drop r after ≡ drop (headerLength (length p)) area
+      behind = rw (head .bytes) (drop-at (headerOf (length p)) (drop (headerLength (length p)) area) r header-size)
+
+      before : take r after ≡ headerOf (length p)
+      before = rw (head .bytes) (take-at (headerOf (length p)) (drop (headerLength (length p)) area) r header-size)
+
+      pub header-inside : r ≤ length after
+      header-inside = omega (arith, head .size, ap length (head .bytes), length-append (headerOf (length p)) (drop (headerLength (length p)) area), length-header (length p))
+
+      pub payload-inside : length p ≤ length (midOf r (length after - r) after)
+      payload-inside =
+          rw (tail-lent r after, behind) (omega (arith, length-drop (headerLength (length p)) area, room))
+
+      pub frame-written : (last : List ℕ) → last ≡ take (length p) p ++ drop (length p) (midOf r (length after - r) after)
+          → Frames p area (Framed (record { 0 = 2 + k + length p })) (putMid r (length after - r) after last)
+      unfolding framingOf areaAfter blockOf blockLength
+      frame-written last e =
+          record {
+            answer =
+                rw (le-ltb longest (length p) short, le-ltb (length area) (blockLength (length p)) (omega (arith, whole)), whole) refl;
+            bytes =
+                tail-back r after last
+                ∙ rw (before, e, take-length p, tail-lent r after, behind, drop-drop (length p) (headerLength (length p)) area, whole)
+                (sym (append-assoc (headerOf (length p)) p (drop (headerLength (length p) + length p) area)));
+          }
