@@ -5,7 +5,7 @@ use Prim.Native.Nat.{ℕ, zero, suc, _+_, _*_, _≤_, _<_}
 use mathlib.Core.Path.{_≡_, refl, ap, ap₂, sym, _∙_}
 use mathlib.Core.Bool.{Bool, true, false}
 use mathlib.Core.Logic.{_⊎_, ⊎-elim, inl, inr}
-use native.Mathlib.Nat.{add-suc, add-zero, zero-mul, one-mul, mul-add, add-mul, mul-zero, lt-of-not-le, not-suc-le-zero}
+use native.Mathlib.Nat.{add-suc, add-zero, zero-mul, mul-one, mul-add, add-mul, mul-zero, mul-le-mul-left, eq-of-mul-eq-mul-left, lt-of-not-le, not-suc-le-zero}
 use native.Mathlib.Decide.{ℕ-discrete, decLe, decLt}
 use native.Mathlib.Omega.{arith}
 use borrow.Author.Tests.{eq-eqb, ne-eqb, lt-ltb, le-ltb}
@@ -126,7 +126,7 @@ unfolding sum
 sum-swap f zero m = sym (sum-zero (λ j. 0) m (λ i l. refl))
 sum-swap f (suc n) m = omega (arith, sum-swap f n m, sum-add (λ j. sum n (λ i. f i j)) (λ j. f n j) m)
 
-under-suc : (x n : ℕ) → under x (suc n) ≡ under x n + same x n
+pub under-suc : (x n : ℕ) → under x (suc n) ≡ under x n + same x n
 under-suc x n =
     by-same x n
     (λ e h. omega (arith, under-yes x (suc n) (omega arith), under-no x n (omega arith)))
@@ -139,3 +139,27 @@ sum-point f x zero = rw (under-no x 0 (omega arith)) (sym (zero-mul (f x)))
 sum-point f x (suc n) =
     let here : same x n * f n ≡ same x n * f x = by-same x n (λ e h. ap (λ (k : ℕ). same x n * f k) (sym e)) (λ e h. rw h (omega (arith, zero-mul (f n), zero-mul (f x)))) in
     omega (arith, sum-point f x n, here, add-mul (under x n) (same x n) (f x), ap (λ (k : ℕ). k * f x) (under-suc x n))
+
+-- Weighed sums need their terms compared only where the weight is not 0, and where their totals agree so do those terms.
+module _ (k x y : ℕ → ℕ) (n : ℕ) (h : (i : ℕ) → i < n → 1 ≤ k i → x i ≤ y i) where
+  weighed-term : (i : ℕ) → i < n → k i * x i ≤ k i * y i
+  weighed-term i l = go (decLt 0 (k i))
+    where
+      go : Dec (1 ≤ k i) → k i * x i ≤ k i * y i
+      go (yes m) = mul-le-mul-left (k i) (h i l m)
+      go (no m) = let z : k i ≡ 0 = omega (arith, lt-of-not-le m) in rw z (omega (arith, zero-mul (x i), zero-mul (y i)))
+
+  pub sum-weighed-le : sum n (λ i. k i * x i) ≤ sum n (λ i. k i * y i)
+  sum-weighed-le = sum-le (λ i. k i * x i) (λ i. k i * y i) n weighed-term
+
+  pub sum-weighed-tight : sum n (λ i. k i * y i) ≤ sum n (λ i. k i * x i) → (i : ℕ) → i < n → 1 ≤ k i → x i ≡ y i
+  sum-weighed-tight e i l m =
+      eq-of-mul-eq-mul-left (k i) m (x i) (y i) (sum-tight (λ i. k i * x i) (λ i. k i * y i) n weighed-term e i l)
+
+pub sum-weighed-ext : (k x y : ℕ → ℕ) (n : ℕ) → ((i : ℕ) → i < n → 1 ≤ k i → x i ≡ y i)
+    → sum n (λ i. k i * x i) ≡ sum n (λ i. k i * y i)
+sum-weighed-ext k x y n h =
+    omega (arith, sum-weighed-le k x y n (λ i l m. omega (arith, h i l m)), sum-weighed-le k y x n (λ i l m. omega (arith, h i l m)))
+
+pub sum-weighed-one : (k : ℕ → ℕ) (n : ℕ) → sum n (λ i. k i * 1) ≡ sum n k
+sum-weighed-one k n = sum-ext (λ i. k i * 1) k n (λ i l. mul-one (k i))

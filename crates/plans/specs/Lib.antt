@@ -3,3 +3,4 @@ pub mod Numbers
 pub mod Order
 pub mod Plan
 pub mod Tables
+pub mod Covers
