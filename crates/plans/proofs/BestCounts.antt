@@ -9,13 +9,9 @@ use Rattle.plans.specs.Order.{Same}
 use Rattle.plans.specs.Plan.{Table, Places, Plan, BestPlan, Best, placed, load, line, total}
 use Rattle.plans.specs.Covers.{weight}
 use Rattle.plans.proofs.Sums.{by-same, same-yes, under-yes, under-no, under-suc}
-use Rattle.plans.proofs.Sums.{sum-le, sum-ext, sum-zero, sum-add, sum-scale, sum-swap, sum-point, sum-at-most, sum-weighed-ext, sum-weighed-one}
+use Rattle.plans.proofs.Sums.{sum-le, sum-ext, sum-zero, sum-add, sum-scale, sum-swap, sum-same, sum-at-most, sum-weighed-ext, sum-weighed-one}
 use Rattle.plans.proofs.Order.{same-of-notMore, notMore-of-not-less}
 use Rattle.plans.proofs.Counting.{placed-true, placed-bit, charge, charge-at-most}
-
--- of the numbers below n, one is s
-sum-same : (s n : ℕ) → s < n → sum n (same s) ≡ 1
-sum-same s n l = omega (arith, sum-weighed-one (same s) n, sum-point (λ i. 1) s n, under-yes s n l)
 
 -- On a channel with one slot sits at most one signal.
 pub one-each : (T : Table) (p : Places) → Plan T p → (c : ℕ) → c < T .channels → T .slots c ≡ 1
@@ -38,8 +34,10 @@ one-each T p P c l one s t ls lt es et = by-same s t (λ e h. e) (λ ne h. absur
           arith,
           sum-le (λ i. same s i + same t i) (λ i. same (p i) c) (T .signals) (both ne),
           sum-add (same s) (same t) (T .signals),
-          sum-same s (T .signals) ls,
-          sum-same t (T .signals) lt,
+          sum-same s (T .signals),
+          sum-same t (T .signals),
+          under-yes s (T .signals) ls,
+          under-yes t (T .signals) lt,
         )
 
 -- The ranks from 1 to i: a rank of at least 1 is one of them just when it is at most i.

@@ -2,7 +2,7 @@
 -- Main results: compare-lines, Less-irrefl, Less-asym; NotMore is "not the greater", and two lines neither of which is the
 -- greater are the same (same-of-notMore), also when they are known only by their sums (cancel).
 use Prim.Native.Nat.{ℕ, zero, suc, _+_, _≤_, _<_}
-use mathlib.Core.Path.{_≡_, refl, sym, _∙_}
+use mathlib.Core.Path.{_≡_, sym, _∙_}
 use native.Mathlib.Nat.{lt-of-not-le, not-suc-le-zero}
 use native.Mathlib.Decide.{ℕ-discrete, decLt}
 use native.Mathlib.Omega.{arith}

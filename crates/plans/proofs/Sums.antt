@@ -2,14 +2,11 @@
 -- sum-tight is the one that makes bounds into equations: terms below terms with equal sums are equal terms.
 -- Leans on specs/Numbers alone.
 use Prim.Native.Nat.{ℕ, zero, suc, _+_, _*_, _≤_, _<_}
-use mathlib.Core.Path.{_≡_, refl, ap, ap₂, sym, _∙_}
-use mathlib.Core.Bool.{Bool, true, false}
-use mathlib.Core.Logic.{_⊎_, ⊎-elim, inl, inr}
+use mathlib.Core.Path.{_≡_, refl, ap, sym, _∙_}
 use native.Mathlib.Nat.{add-suc, add-zero, zero-mul, mul-one, mul-add, add-mul, mul-zero, mul-le-mul-left, eq-of-mul-eq-mul-left, lt-of-not-le, not-suc-le-zero}
-use native.Mathlib.Decide.{ℕ-discrete, decLe, decLt}
+use native.Mathlib.Decide.{ℕ-discrete, decLt}
 use native.Mathlib.Omega.{arith}
 use borrow.Author.Tests.{eq-eqb, ne-eqb, lt-ltb, le-ltb}
-use lib.Dec.{eqb, ltb}
 use Rattle.plans.specs.Numbers.{bit, same, under, sum}
 
 -- Tests
@@ -139,6 +136,27 @@ sum-point f x zero = rw (under-no x 0 (omega arith)) (sym (zero-mul (f x)))
 sum-point f x (suc n) =
     let here : same x n * f n ≡ same x n * f x = by-same x n (λ e h. ap (λ (k : ℕ). same x n * f k) (sym e)) (λ e h. rw h (omega (arith, zero-mul (f n), zero-mul (f x)))) in
     omega (arith, sum-point f x n, here, add-mul (under x n) (same x n) (f x), ap (λ (k : ℕ). k * f x) (under-suc x n))
+
+-- Counting and finding
+
+pub same-iff : (a b c d : ℕ) → (a ≡ b → c ≡ d) → (c ≡ d → a ≡ b) → same a b ≡ same c d
+same-iff a b c d f g = by-same a b (λ e h. h ∙ sym (same-yes c d (f e))) (λ e h. h ∙ sym (same-no c d (λ k. e (g k))))
+
+-- x is one of the numbers below n, or none of them
+pub sum-same : (x n : ℕ) → sum n (λ i. same x i) ≡ under x n
+unfolding sum
+sum-same x zero = sym (under-no x 0 (omega arith))
+sum-same x (suc n) = omega (arith, sum-same x n, under-suc x n)
+
+-- of two sums the smaller has a smaller term
+pub sum-less : (f g : ℕ → ℕ) (n : ℕ) → sum n f < sum n g → (i : ℕ) × (i < n) × (f i < g i)
+unfolding sum
+sum-less f g zero l = absurd (omega arith)
+sum-less f g (suc n) l = pick (decLt (f n) (g n)) (sum-less f g n)
+  where
+    pick : Dec (f n < g n) → (sum n f < sum n g → (i : ℕ) × (i < n) × (f i < g i)) → (i : ℕ) × (i < suc n) × (f i < g i)
+    pick (yes h) ih = (n, omega arith, h)
+    pick (no h) ih = let r : (i : ℕ) × (i < n) × (f i < g i) = ih (omega (arith, lt-of-not-le h)) in (r .0, omega arith, r .2)
 
 -- Weighed sums need their terms compared only where the weight is not 0, and where their totals agree so do those terms.
 module _ (k x y : ℕ → ℕ) (n : ℕ) (h : (i : ℕ) → i < n → 1 ≤ k i → x i ≤ y i) where
