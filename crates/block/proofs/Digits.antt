@@ -2,7 +2,7 @@
 -- Leans on specs/Opening.
 use Prim.Native.Nat.{ℕ, zero, suc, _+_, _-_, _*_, _^_, _≤_, _<_}
 use mathlib.Core.Path.{_≡_, refl, ap, sym, _∙_}
-use mathlib.Core.Bool.{Bool, true, false, cond, _&&_, and-false}
+use mathlib.Core.Bool.{Bool, true, false, cond, _&&_, and-false, false≢true}
 use mathlib.Core.List.{List}
 use mathlib.Core.Logic.{_⊎_, ⊎-elim}
 use native.Mathlib.Nat.{pow-suc, pow-le-pow-right, le-antisymm, not-suc-le-zero}
@@ -11,10 +11,18 @@ use native.Mathlib.Numerals.{add-one}
 use native.Mathlib.Omega.{arith}
 use lib.ListN.{length, getD}
 use lib.Dec.{eqb, leb}
-use borrow.Author.Tests.{le-leb, lt-leb, eq-eqb, ne-eqb}
+use borrow.Author.Tests.{le-leb, lt-leb, leb-true, eq-eqb, ne-eqb}
 use Rattle.block.specs.declared.Opening.{Opening}
 use Rattle.block.specs.declared.Opening.the-variants.{NoMark, NoDigit, WrongEnd, Payload}
 use Rattle.block.specs.Opening.{isDigit, digitsAt2, countAt2, countedOf, from}
+
+pub and-left : (a b : Bool) → (a && b) ≡ true → a ≡ true
+and-left true b e = refl
+and-left false b e = e
+
+pub and-right : (a b : Bool) → (a && b) ≡ true → b ≡ true
+and-right true b e = e
+and-right false b e = absurd (false≢true e)
 
 pub digit-yes : (b : ℕ) → 48 ≤ b → b ≤ 57 → isDigit b ≡ true
 unfolding isDigit
@@ -27,6 +35,14 @@ digit-low b l = rw (lt-leb 48 b l)
 pub digit-high : (b : ℕ) → 57 < b → isDigit b ≡ false
 unfolding isDigit
 digit-high b l = rw (lt-leb b 57 l) (and-false (leb 48 b))
+
+pub digit-there : (b : ℕ) → isDigit b ≡ true → 0 < b
+unfolding isDigit
+digit-there b e = omega (arith, leb-true 48 b (and-left (leb 48 b) (leb b 57) e))
+
+pub digit-most : (b : ℕ) → isDigit b ≡ true → b ≤ 57
+unfolding isDigit
+digit-most b e = leb-true b 57 (and-right (leb 48 b) (leb b 57) e)
 
 -- One byte that is no digit spoils all counts that reach it.
 pub digits-spoilt : (s : List ℕ) (i k : ℕ) → i < k → isDigit (getD s (2 + i) 0) ≡ false → digitsAt2 s k ≡ false

@@ -1,5 +1,5 @@
 -- What the counts of plans and of best plans have in common. Main results: the counts of a line add up to the number of placed
--- signals (at-most, total-of-line), all best plans have one line and one total (best-plans-same-line, best-unique,
+-- signals (at-most, total-of-line), all best plans have one line and one total (best-plans-same-line, line-of-best, best-unique,
 -- best-plans-same-total, best-total), and a total is at most the signals and at most the slots (total-at-most-min). Leans on Counting and Order.
 use Prim.Native.Nat.{ℕ, zero, suc, _+_, _*_, min, _≤_, _<_}
 use mathlib.Core.Path.{_≡_, refl, sym, ap, _∙_}
@@ -106,19 +106,19 @@ best-plans-same-line T p q P Q =
     (notMore-of-not-less (T .ranks) (line T q) (line T p) (P .unbeaten q (Q .plan)))
 
 -- which is the best counts,
-best-line : (T : Table) (b : ℕ → ℕ) (p : Places) → Best T b → BestPlan T p → Same (T .ranks) (line T p) b
+pub line-of-best : (T : Table) (b : ℕ → ℕ) (p : Places) → Best T b → BestPlan T p → Same (T .ranks) (line T p) b
 unfolding Same
-best-line T b p B P i l = best-plans-same-line T p (B .places) P (B .best) i l ∙ B .counts i l
+line-of-best T b p B P i l = best-plans-same-line T p (B .places) P (B .best) i l ∙ B .counts i l
 
 -- so that there is one line of best counts,
 pub best-unique : (T : Table) (a b : ℕ → ℕ) → Best T a → Best T b → Same (T .ranks) a b
 unfolding Same
-best-unique T a b A B i l = sym (A .counts i l) ∙ best-line T b (A .places) B (A .best) i l
+best-unique T a b A B i l = sym (A .counts i l) ∙ line-of-best T b (A .places) B (A .best) i l
 
 -- and all best plans place the same number of signals.
 pub best-total : (T : Table) (b : ℕ → ℕ) (p : Places) → Best T b → BestPlan T p → total T p ≡ sum (T .ranks) b
 unfolding Same
-best-total T b p B P = total-of-line T p (P .plan) ∙ sum-ext (line T p) b (T .ranks) (best-line T b p B P)
+best-total T b p B P = total-of-line T p (P .plan) ∙ sum-ext (line T p) b (T .ranks) (line-of-best T b p B P)
 
 pub best-plans-same-total : (T : Table) (p q : Places) → BestPlan T p → BestPlan T q → total T p ≡ total T q
 unfolding Same

@@ -10,3 +10,6 @@ pub mod Cut
 pub mod Beside
 pub mod OneMore
 pub mod Laws
+pub mod Ways
+pub mod Rows
+pub mod LooksGood

@@ -4,3 +4,5 @@ pub mod Order
 pub mod Plan
 pub mod Tables
 pub mod Covers
+pub mod Rows
+pub mod LooksGood

@@ -1,0 +1,30 @@
+-- The two forms of a block, as document 01 describes them and whatever opens it: s is a block, p the payload that it marks.
+use Prim.Native.Nat.{ℕ, _+_, _≤_, _<_}
+use mathlib.Core.Path.{_≡_}
+use mathlib.Core.Bool.{true}
+use mathlib.Core.List.{List, [], _∷_, _++_}
+use lib.ListN.{length, getD, drop}
+use Rattle.block.specs.Opening.{digitsAt2, countAt2}
+
+-- Definite: `#`, a digit k from 1 to 9, k digits that count the bytes of the payload, then the payload and nothing more.
+pub record Definite (s p : List ℕ) : Type 0 where
+  pub k : ℕ
+  pub some : 1 ≤ k
+  pub few : k ≤ 9
+  pub mark : getD s 0 0 ≡ 35
+  pub form : getD s 1 0 ≡ 48 + k
+  pub digits : digitsAt2 s k ≡ true
+  pub counts : countAt2 s k ≡ length p
+  pub rest : drop (2 + k) s ≡ p
+
+-- Open-ended: `#0`, then a payload without a newline, then a newline and nothing more.
+pub record OpenEnded (s p : List ℕ) : Type 0 where
+  pub mark : getD s 0 0 ≡ 35
+  pub form : getD s 1 0 ≡ 48
+  pub rest : drop 2 s ≡ p ++ (10 ∷ [])
+  pub plain : (i : ℕ) → i < length p → getD p i 0 ≡ 10 → ⊥
+
+-- s is a block of one form or the other, and p is its payload.
+pub data Block (s p : List ℕ) : Type 0 where
+  definite : Definite s p → Block s p
+  openEnded : OpenEnded s p → Block s p
