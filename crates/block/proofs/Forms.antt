@@ -75,10 +75,10 @@ module _ (s : List ℕ) (mark : getD s 0 0 ≡ 35) (form : getD s 1 0 ≡ 48) wh
       go true e z =
           let whole : n + 1 ≡ length (drop 2 s) = omega (arith, length-drop 2 s, eqb-true (2 + n + 1) (length s) e) in
           record {
-              mark = mark;
-              form = form;
-              rest = ended-rest (drop 2 s) whole;
-              plain = λ i l h. index-before 10 (drop 2 s) i (omega (arith, length-take n (drop 2 s))) (sym (getD-take n (drop 2 s) i 0 (omega (arith, length-take n (drop 2 s)))) ∙ h)
+            mark = mark;
+            form = form;
+            rest = ended-rest (drop 2 s) whole;
+            plain = λ i l h. index-before 10 (drop 2 s) i (omega (arith, length-take n (drop 2 s))) (sym (getD-take n (drop 2 s) i 0 (omega (arith, length-take n (drop 2 s)))) ∙ h);
           }
       go false e z = absurd (omega (arith, z))
 
@@ -103,14 +103,14 @@ module _ (s : List ℕ) (k : ℕ) (mark : getD s 0 0 ≡ 35) (form : getD s 1 0 
           let size : length (drop (2 + k) s) ≡ countAt2 s k = omega (arith, length-drop (2 + k) s, eqb-true (2 + k + countAt2 s k) (length s) e) in
           let whole : take (countAt2 s k) (drop (2 + k) s) ≡ drop (2 + k) s = take-all (countAt2 s k) (drop (2 + k) s) (omega arith) in
           record {
-              k = k;
-              some = some;
-              few = few;
-              mark = mark;
-              form = form;
-              digits = h;
-              counts = rw whole (sym size);
-              rest = sym whole
+            k = k;
+            some = some;
+            few = few;
+            mark = mark;
+            form = form;
+            digits = h;
+            counts = rw whole (sym size);
+            rest = sym whole;
           }
       go true h false e z = absurd (omega (arith, z))
       go false h true e z = absurd (omega (arith, z))

@@ -63,10 +63,9 @@ read-digits s (suc k) n l h =
     h k (omega arith) ∙ getD-at (digitsOf k (n / 10)) (48 + n % 10) [] 0 k size in
     let less : (digitsAt2 s k ≡ true) × (countAt2 s k ≡ n / 10) =
     read-digits s k (n / 10) (omega (arith, pow-suc 10 k))
-    (λ j m. h j (omega arith) ∙ List·getD-append (digitsOf k (n / 10)) ((48 + n % 10) ∷ []) 0 j (omega arith)) in
-    (
-        rw (less .0, last) (digit-yes (48 + n % 10) (omega arith) (omega arith)),
-        rw (less .1, last) (omega arith)
+    (λ j m. h j (omega arith) ∙ List·getD-append (digitsOf k (n / 10)) ((48 + n % 10) ∷ []) 0 j (omega arith)) in (
+      rw (less .0, last) (digit-yes (48 + n % 10) (omega arith) (omega arith)),
+      rw (less .1, last) (omega arith),
     )
 
 -- every number read from k digits is below 10 ^ k
@@ -75,10 +74,10 @@ unfolding digitsAt2 countAt2
 count-below s zero e = omega (arith, pow-zero 10)
 count-below s (suc k) e =
     omega (
-        arith,
-        pow-suc 10 k,
-        count-below s k (and-left (digitsAt2 s k) (isDigit (getD s (2 + k) 0)) e),
-        digit-most (getD s (2 + k) 0) (and-right (digitsAt2 s k) (isDigit (getD s (2 + k) 0)) e)
+      arith,
+      pow-suc 10 k,
+      count-below s k (and-left (digitsAt2 s k) (isDigit (getD s (2 + k) 0)) e),
+      digit-most (getD s (2 + k) 0) (and-right (digitsAt2 s k) (isDigit (getD s (2 + k) 0)) e),
     )
 
 header-size : (n : ℕ) → length (headerOf n) ≡ 2 + widthOf n
@@ -107,14 +106,14 @@ module _ (p : List ℕ) (short : length p ≤ longest) where
   unfolding blockOf headerOf
   framed-definite =
       record {
-          k = widthOf (length p);
-          some = w .some;
-          few = omega (arith, w .few);
-          mark = refl;
-          form = refl;
-          digits = read .0;
-          counts = read .1;
-          rest = drop-at (headerOf (length p)) p (2 + widthOf (length p)) (header-size (length p))
+        k = widthOf (length p);
+        some = w .some;
+        few = omega (arith, w .few);
+        mark = refl;
+        form = refl;
+        digits = read .0;
+        counts = read .1;
+        rest = drop-at (headerOf (length p)) p (2 + widthOf (length p)) (header-size (length p));
       }
 
   -- Opening a framed block succeeds and hands back the payload.
@@ -126,9 +125,9 @@ module _ (p : List ℕ) (short : length p ≤ longest) where
   unfolding blockLength headerLength
   framed-shortest s f =
       omega (
-          arith,
-          length-block p,
-          sym (length-drop (2 + f .k) s) ∙ ap length (f .rest),
-          header-inside s (f .k) (f .some) (f .digits),
-          w .least (f .k) (f .some) (omega (arith, f .counts, count-below s (f .k) (f .digits)))
+        arith,
+        length-block p,
+        sym (length-drop (2 + f .k) s) ∙ ap length (f .rest),
+        header-inside s (f .k) (f .some) (f .digits),
+        w .least (f .k) (f .some) (omega (arith, f .counts, count-below s (f .k) (f .digits))),
       )

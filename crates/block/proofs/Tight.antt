@@ -35,10 +35,10 @@ pub frame-tight : (p area : List ℕ) (r r′ : Framing) (after after′ : List 
 frame-tight p area r r′ after after′ f f′ =
     let same : r ≡ r′ = f .answer ∙ sym (f′ .answer) in
     record {
-        number = ap framingNumber same;
-        place = ap framingPlace same;
-        length = ap framingLength same;
-        bytes = f .bytes ∙ ap (λ (o : Framing). areaAfter o p area) same ∙ sym (f′ .bytes)
+      number = ap framingNumber same;
+      place = ap framingPlace same;
+      length = ap framingLength same;
+      bytes = f .bytes ∙ ap (λ (o : Framing). areaAfter o p area) same ∙ sym (f′ .bytes);
     }
 
 pub header-tight : (n : ℕ) (area : List ℕ) (r r′ : ℕ) (after after′ : List ℕ) → Heads n area r after → Heads n area r′ after′ → (r ≡ r′) × (after ≡ after′)

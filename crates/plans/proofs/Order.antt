@@ -24,7 +24,7 @@ less-here : {n : ℕ} {f g : ℕ → ℕ} → Same n f g → f n < g n → Less 
 unfolding Same
 less-here {n} e l = record { at = n; inside = omega arith; before = e; less = l }
 
-same-more : (n : ℕ) (f g : ℕ → ℕ) → Same n f g → f n ≡ g n → Same (suc n) f g
+pub same-more : (n : ℕ) (f g : ℕ → ℕ) → Same n f g → f n ≡ g n → Same (suc n) f g
 unfolding Same
 same-more n f g e here i l = split-last i n l (λ (p : i ≡ n). rw p here) (e i)
 

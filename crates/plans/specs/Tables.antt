@@ -5,6 +5,7 @@ use mathlib.Core.List.{List, [], _∷_}
 use lib.Dec.{eqb, ltb, leb}
 use Rattle.plans.specs.Plan.{Table}
 
+-- the first value where the test passed, the second where it failed; kept shut, so that a goal shows the test
 unfoldable pub pick {ℓ} : {A : Type ℓ} → Bool → A → A → A
 pick true a b = a
 pick false a b = b
