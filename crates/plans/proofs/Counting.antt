@@ -8,7 +8,7 @@ use native.Mathlib.Omega.{arith}
 use Rattle.plans.specs.Numbers.{same, under, sum}
 use Rattle.plans.specs.Plan.{Table, Places, Plan, placed, load}
 use Rattle.plans.specs.Covers.{weight}
-use Rattle.plans.proofs.Sums.{under-yes, under-true, under-bit}
+use Rattle.plans.proofs.Sums.{under-yes, under-no, under-true, under-bit}
 use Rattle.plans.proofs.Sums.{sum-ext, sum-add, sum-scale, sum-swap, sum-point, sum-weighed-le, sum-weighed-one, sum-weighed-tight}
 
 -- what a cover charges a plan's placed signals
@@ -19,6 +19,10 @@ module _ (T : Table) (p : Places) (s : ℕ) where
   pub placed-yes : p s < T .channels → placed T p s ≡ 1
   unfolding placed
   placed-yes = under-yes (p s) (T .channels)
+
+  pub placed-no : T .channels ≤ p s → placed T p s ≡ 0
+  unfolding placed
+  placed-no = under-no (p s) (T .channels)
 
   pub placed-true : 1 ≤ placed T p s → p s < T .channels
   unfolding placed

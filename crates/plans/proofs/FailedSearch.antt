@@ -18,16 +18,16 @@ use Rattle.plans.proofs.Counting.{placed-yes, placed-true}
 use Rattle.plans.proofs.Covers.{stands-less}
 
 module _ (f : ℕ → ℕ → ℕ) (i : ℕ) (a : ℕ → ℕ) (x : ℕ) where
-  replaced-here : replaced f i a i x ≡ a x
+  pub replaced-here : replaced f i a i x ≡ a x
   unfolding replaced pick
   replaced-here = rw (eq-eqb i i refl)
 
-  replaced-below : (j : ℕ) → j < i → replaced f i a j x ≡ f j x
+  pub replaced-below : (j : ℕ) → j < i → replaced f i a j x ≡ f j x
   unfolding replaced pick
   replaced-below j l = rw (ne-eqb j i (omega arith))
 
   -- what is covered up to index i is covered by the new cover or by one before it
-  by-replaced {ℓ} : {X : Type ℓ} (j : ℕ) → j < suc i → 1 ≤ replaced f i a j x
+  pub by-replaced {ℓ} : {X : Type ℓ} (j : ℕ) → j < suc i → 1 ≤ replaced f i a j x
       → (1 ≤ a x → X) → (j < i → 1 ≤ f j x → X) → X
   by-replaced j l k here below =
       split-last j i l
