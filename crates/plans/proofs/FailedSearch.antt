@@ -77,6 +77,17 @@ module _ (T : Table) (K : Covers) (i : ℕ) (a b : ℕ → ℕ) (s c : ℕ) wher
     },
   )
 
+-- A cover at index i that covers every live pair makes a certificate one rank longer.
+pub certificate-covers : (T : Table) (K : Covers) (i : ℕ) (a b : ℕ → ℕ) → ((s c : ℕ) → Live T K i s c → 1 ≤ a s + b c)
+    → Certificate T K i → Certificate T (extend K i a b) (suc i)
+certificate-covers T K i a b all G = record { covered = λ j s c l v. covered j s c l (live-before T K i a b s c j (omega arith) v) }
+  where
+    covered : (j s c : ℕ) → j < suc i → Live T K j s c → 1 ≤ extend K i a b .onSignal j s + extend K i a b .onChannel j c
+    covered j s c l v =
+        split-last j i l
+        (λ e. rw (e, cover-here) (all s c (rw e at v)))
+        (λ m. omega (arith, cover-below K i a b s c j m, G .covered j s c m v))
+
 module _ (T : Table) (p : Places) (reached : ℕ → ℕ) (s : ℕ) where
   -- A placed signal is covered just when its channel is not.
   coverOn-placed : reached (p s) ≤ 1 → p s < T .channels → coverOn T p reached s + reached (p s) ≡ 1
@@ -99,14 +110,7 @@ module _ (T : Table) (K : Covers) (i : ℕ) (p : Places) (reached : ℕ → ℕ)
       go m (no r) = omega (arith, coverOn-placed T p reached s (closed .bit (p s)) m, lt-of-not-le r)
 
   pub certificate-extends : Certificate T K i → Certificate T (afterSearch T K i p reached) (suc i)
-  certificate-extends G = record { covered = λ j s c l v. covered j s c l (live-before T K i (coverOn T p reached) reached s c j (omega arith) v) }
-    where
-      covered : (j s c : ℕ) → j < suc i → Live T K j s c
-          → 1 ≤ afterSearch T K i p reached .onSignal j s + afterSearch T K i p reached .onChannel j c
-      covered j s c l v =
-          split-last j i l
-          (λ e. rw (e, cover-here) (closed-covers s c (rw e at v)))
-          (λ m. omega (arith, cover-below K i (coverOn T p reached) reached s c j m, G .covered j s c m v))
+  certificate-extends = certificate-covers T K i (coverOn T p reached) reached closed-covers
 
   pub tight-extends : Tight T K i p → ((s : ℕ) → s < T .signals → p s < T .channels → T .rank s (p s) ≤ suc i)
       → Tight T (afterSearch T K i p reached) (suc i) p

@@ -1,0 +1,336 @@
+-- Striking, put together: one law for each way through striking one signal (one-free, one-marked, one-covered) and through
+-- the loops (signals-more, channels-open, channels-marked), and that both loops together have Struck. Leans on proofs/Area.
+use Prim.Native.Nat.{ℕ, suc, _+_, _≤_, _<_}
+use mathlib.Core.Path.{_≡_, refl, ap, sym, _∙_}
+use mathlib.Core.List.{List}
+use native.Mathlib.Decide.{decLt}
+use native.Mathlib.Omega.{arith}
+use borrow.Author.Count.{below-more}
+use Rattle.placer.specs.declared.Size.{Size}
+use Rattle.placer.specs.Work.{at, none, START, END, LIVE, CHANNEL, SHUT-SIGNAL, SHUT-CHANNEL, FROM, MIDDLE, Same, Put}
+use Rattle.placer.specs.State.{Input, InList, Lists, Mates, Covered, Struck, Spared, Untouched, Lessened, Thinned, StruckAt, StruckOne, StruckSignals, StruckChannels}
+use Rattle.placer.proofs.Area.{put-other, put-below, put-above, same-refl, same-trans, same-sym, same-part, same-at, same-start, same-listed, same-in-list, start-most, end-most, list-channel}
+
+-- What is spared and untouched
+
+spared-refl : (v : List ℕ) → Spared v v
+spared-refl v = record { input = same-refl _ _ v; mates = same-refl _ _ v; marks = same-refl _ _ v }
+
+spared-sym : {v w : List ℕ} → Spared v w → Spared w v
+spared-sym p = record { input = same-sym (p .input); mates = same-sym (p .mates); marks = same-sym (p .marks) }
+
+spared-trans : {v w x : List ℕ} → Spared v w → Spared w x → Spared v x
+spared-trans p q =
+    record {
+      input = same-trans (q .input) (p .input);
+      mates = same-trans (q .mates) (p .mates);
+      marks = same-trans (q .marks) (p .marks);
+    }
+
+untouched-refl : (s : ℕ) (v : List ℕ) → Untouched s v v
+untouched-refl s v = record { flag = refl; end = refl; room = λ k l m. refl }
+
+-- The cover is read off the mates and the marks.
+covered-same : {z : Size} {s : ℕ} {v w : List ℕ} → Spared v w → s < 200 → z .channels ≤ 200 → Covered z v s → Covered z w s
+covered-same {z} {s} {v} {w} p l few k =
+    let e : at w CHANNEL s ≡ at v CHANNEL s = same-at (p .mates) CHANNEL s (omega arith) (omega arith) in
+    record {
+      placed = rw e (k .placed);
+      unmarked = rw e (same-at (p .marks) FROM (at v CHANNEL s) (omega arith) (omega (arith, k .placed)) ∙ k .unmarked);
+    }
+
+module _ {s : ℕ} {v w : List ℕ} (h : Same 0 MIDDLE w v) (small : s < 200) (u : Untouched s v w) where
+  start : at w START s ≡ at v START s
+  start = same-start h s (omega arith)
+
+  untouched-trans : {x : List ℕ} → Untouched s w x → Untouched s v x
+  untouched-trans t =
+      record {
+        flag = t .flag ∙ u .flag;
+        end = t .end ∙ u .end;
+        room = λ k l m.
+            t .room k (omega (arith, start)) (omega (arith, same-start h (suc s) (omega arith))) ∙ u .room k l m;
+      }
+
+  module _ (inside : at v END s ≤ at v START (suc s)) {c : ℕ} where
+    untouched-forth : InList v s c → InList w s c
+    untouched-forth i =
+        record {
+          place = i .place;
+          from = omega (arith, start, i .from);
+          below = omega (arith, u .end, i .below);
+          is = u .room (i .place) (i .from) (omega (arith, i .below)) ∙ i .is;
+        }
+
+    untouched-back : InList w s c → InList v s c
+    untouched-back i =
+        let from : at v START s ≤ i .place = omega (arith, start, i .from) in
+        let below : i .place < at v END s = omega (arith, u .end, i .below) in
+        record { place = i .place; from = from; below = below; is = sym (u .room (i .place) from (omega arith)) ∙ i .is }
+
+module _ {z : Size} {v : List ℕ} (n : Input z v) (l : Lists z v) where
+  -- One signal
+
+  module _ {s : ℕ} (h : s < z .signals) where
+    small : s < 200
+    small = omega (arith, n .few-signals)
+
+    uncovered : (Covered z v s → ⊥) → StruckOne z s v v
+    uncovered q =
+        record {
+          spared = spared-refl v;
+          here =
+              record {
+                shut = λ k. absurd (q k);
+                as-it-was = λ k. refl;
+                less = record { shorter = omega arith; order = l .order s h; only = λ c i. i };
+                struck = λ c i k. absurd (q k);
+                kept = λ c i k. i;
+              };
+          others = λ t m d. untouched-refl t v;
+        }
+
+    -- The list is thinned, and then the flag put.
+    module _ {u w : List ℕ} (t : Thinned z s v u) (p : Put u SHUT-SIGNAL s 1 w) where
+      lists-stay : Same 0 CHANNEL w u
+      lists-stay = put-below p 0 CHANNEL (omega arith)
+
+      end-stays : at w END s ≡ at u END s
+      end-stays = same-at lists-stay END s (omega arith) (omega (arith, small))
+
+      end-few : at u END s ≤ 3000
+      end-few = omega (arith, t .less .shorter, end-most n l s h)
+
+      thinned-list : {c : ℕ} → InList w s c → InList u s c
+      thinned-list {c} i = same-in-list (same-sym lists-stay) s c small (omega (arith, end-stays, end-few)) i
+
+      flag-others : (o : ℕ) → o < z .signals → (o ≡ s → ⊥) → Untouched o v w
+      flag-others o m q =
+          let old = t .others o m q in
+          record {
+            flag = put-other p SHUT-SIGNAL o (λ e. q (omega arith)) ∙ old .flag;
+            end = put-other p END o (λ e. omega (arith, n .few-signals)) ∙ old .end;
+            room = λ j a b. put-other p LIVE j (λ e. omega (arith, start-most n (suc o) m, n .few-pairs)) ∙ old .room j a b;
+          }
+
+      covered : Covered z v s → StruckOne z s v w
+      covered k =
+          record {
+            spared =
+                spared-trans (t .spared)
+                (record { input = put-below p _ _ (omega arith); mates = put-below p _ _ (omega arith); marks = put-above p _ _ (omega (arith, small)) });
+            here =
+                record {
+                  shut = λ _. p .here;
+                  as-it-was = λ q. absurd (q k);
+                  less =
+                      record {
+                        shorter = omega (arith, end-stays, t .less .shorter);
+                        order = omega (arith, end-stays, same-at lists-stay START s (omega arith) (omega (arith, small)), t .less .order);
+                        only = λ c i. t .less .only c (thinned-list i);
+                      };
+                  struck = λ c i _. t .unmarked c (thinned-list i);
+                  kept = λ c i q. same-in-list lists-stay s c small end-few (t .kept c i (q k));
+                };
+            others = flag-others;
+          }
+
+    -- The signal sits on c, or c is none.
+    module _ (m : Mates z v) {c : ℕ} (sits : c ≡ at v CHANNEL s) where
+      pub one-free : none ≤ c → StruckOne z s v v
+      one-free q = uncovered (λ k. omega (arith, n .few-channels, k .placed))
+
+      module _ (placed : c < none) where
+        pub one-channel : c < z .channels
+        one-channel = omega (arith, m .placed s h (λ e. omega arith))
+
+        module _ {mark : ℕ} (read : mark ≡ at v FROM c) where
+          pub one-marked : (mark ≡ none → ⊥) → StruckOne z s v v
+          one-marked q = uncovered (λ k. q (read ∙ ap (at v FROM) sits ∙ k .unmarked))
+
+          pub one-covered : {u w : List ℕ} → mark ≡ none → Thinned z s v u → Put u SHUT-SIGNAL s 1 w → StruckOne z s v w
+          one-covered q t p =
+              covered t p (record { placed = omega (arith, one-channel); unmarked = sym (ap (at v FROM) sits) ∙ sym read ∙ q })
+
+  -- All signals
+
+  pub signals-none : StruckSignals z 0 v v
+  signals-none = record { spared = spared-refl v; done = λ s m. absurd (omega arith); ahead = λ s m h. untouched-refl s v }
+
+  module _ {w : List ℕ} {k : ℕ} (t : StruckSignals z k v w) where
+    lessened : (s : ℕ) → s < z .signals → Lessened s v w
+    lessened s h = pick (decLt s k)
+      where
+        pick : Dec (s < k) → Lessened s v w
+        pick (yes e) = t .done s e .less
+        pick (no e) =
+            let u = t .ahead s (omega arith) h in
+            record {
+              shorter = omega (arith, u .end);
+              order = omega (arith, u .end, same-start (t .spared .input) s (omega (arith, small h)), l .order s h);
+              only = λ c i. untouched-back (t .spared .input) (small h) u (l .inside s h) i;
+            }
+
+    pub signals-lists : Lists z w
+    signals-lists =
+        record {
+          order = λ s h. lessened s h .order;
+          inside = λ s h.
+              omega (arith, lessened s h .shorter, same-start (t .spared .input) (suc s) (omega (arith, small h)), l .inside s h);
+          backed = λ s c h i. same-listed (t .spared .input) (n .few-pairs) (l .backed s c h (lessened s h .only c i));
+        }
+
+    module _ {x : List ℕ} (few : k < z .signals) (o : StruckOne z k w x) where
+      -- a signal that was struck before
+      struck-earlier : (s : ℕ) → s < k → StruckAt z s v x
+      struck-earlier s m =
+          record {
+            shut = λ q. u .flag ∙ d .shut q;
+            as-it-was = λ q. u .flag ∙ d .as-it-was q;
+            less =
+                record {
+                  shorter = omega (arith, u .end, d .less .shorter);
+                  order = omega (arith, u .end, same-start (o .spared .input) s (omega (arith, small h)), d .less .order);
+                  only = λ c i. d .less .only c (back i);
+                };
+            struck = λ c i q. d .struck c (back i) q;
+            kept = λ c i q. untouched-forth (o .spared .input) (small h) u (signals-lists .inside s h) (d .kept c i q);
+          }
+        where
+          h : s < z .signals
+          h = omega arith
+
+          d : StruckAt z s v w
+          d = t .done s m
+
+          u : Untouched s w x
+          u = o .others s h (λ e. omega arith)
+
+          back : {c : ℕ} → InList x s c → InList w s c
+          back i = untouched-back (o .spared .input) (small h) u (signals-lists .inside s h) i
+
+      -- the signal that was untouched and is struck now
+      struck-now : StruckAt z k v x
+      struck-now =
+          record {
+            shut = λ q. d .shut (forth q);
+            as-it-was = λ q. d .as-it-was (λ j. q (covered-same (spared-sym (t .spared)) (small few) (n .few-channels) j)) ∙ u .flag;
+            less = record { shorter = omega (arith, u .end, d .less .shorter); order = d .less .order; only = λ c i. back i };
+            struck = λ c i q. sym (mark c (back i)) ∙ d .struck c i (forth q);
+            kept = λ c i q.
+                d .kept c (untouched-forth (t .spared .input) (small few) u (l .inside k few) i)
+                (λ j. mark c i ∙ q (covered-same (spared-sym (t .spared)) (small few) (n .few-channels) j));
+          }
+        where
+          d : StruckAt z k w x
+          d = o .here
+
+          u : Untouched k v w
+          u = t .ahead k (omega arith) few
+
+          forth : Covered z v k → Covered z w k
+          forth q = covered-same (t .spared) (small few) (n .few-channels) q
+
+          back : {c : ℕ} → InList x k c → InList v k c
+          back {c} i = untouched-back (t .spared .input) (small few) u (l .inside k few) (d .less .only c i)
+
+          mark : (c : ℕ) → InList v k c → at w FROM c ≡ at v FROM c
+          mark c i = same-at (t .spared .marks) FROM c (omega arith) (omega (arith, list-channel n l k c few i, n .few-channels))
+
+      pub signals-more : StruckSignals z (k + 1) v x
+      signals-more =
+          record {
+            spared = spared-trans (t .spared) (o .spared);
+            done = below-more _ k struck-earlier struck-now;
+            ahead = λ s m h.
+                untouched-trans (t .spared .input) (small h) (t .ahead s (omega arith) h) (o .others s h (λ e. omega arith));
+          }
+
+-- The channels
+
+pub channels-none : (v : List ℕ) → StruckChannels 0 v v
+channels-none v =
+    record {
+      below = same-refl _ _ v;
+      cleared = λ c l. absurd (omega arith);
+      shut = λ c l. absurd (omega arith);
+      as-it-was = λ c l. absurd (omega arith);
+      ahead-mark = λ c l. refl;
+      ahead-flag = λ c l m. refl;
+    }
+
+module _ {v w : List ℕ} {n mark : ℕ} (t : StruckChannels n v w) (few : n < 200) (read : mark ≡ at w FROM n) where
+  old : mark ≡ at v FROM n
+  old = read ∙ t .ahead-mark n (omega arith)
+
+  pub channels-open : mark ≡ none → StruckChannels (n + 1) v w
+  channels-open q =
+      record {
+        below = t .below;
+        cleared = below-more _ n (t .cleared) (sym read ∙ q);
+        shut = below-more _ n (t .shut) (λ m. absurd (omega (arith, old)));
+        as-it-was = below-more _ n (t .as-it-was) (λ m. t .ahead-flag n (omega arith) few);
+        ahead-mark = λ c l. t .ahead-mark c (omega arith);
+        ahead-flag = λ c l. t .ahead-flag c (omega arith);
+      }
+
+  pub channels-marked : {u x : List ℕ} → (mark ≡ none → ⊥) → Put w SHUT-CHANNEL n 1 u → Put u FROM n none x → StruckChannels (n + 1) v x
+  channels-marked {u} {x} q p r =
+      record {
+        below = same-trans (put-below r 0 SHUT-CHANNEL (omega arith)) (same-trans (put-below p 0 SHUT-CHANNEL (omega arith)) (t .below));
+        cleared = below-more _ n (λ c l. marks c (omega arith) ∙ t .cleared c l) (r .here);
+        shut = below-more _ n (λ c l m. flags c (omega arith) (omega arith) ∙ t .shut c l m) (λ m. flag n few ∙ p .here);
+        as-it-was = below-more _ n (λ c l m. flags c (omega arith) (omega arith) ∙ t .as-it-was c l m) (λ m. absurd (q (old ∙ m)));
+        ahead-mark = λ c l. marks c (omega arith) ∙ t .ahead-mark c (omega arith);
+        ahead-flag = λ c l m. flags c m (omega arith) ∙ t .ahead-flag c (omega arith) m;
+      }
+    where
+      flag : (c : ℕ) → c < 200 → at x SHUT-CHANNEL c ≡ at u SHUT-CHANNEL c
+      flag c l = put-other r SHUT-CHANNEL c (λ e. omega arith)
+
+      flags : (c : ℕ) → c < 200 → (c ≡ n → ⊥) → at x SHUT-CHANNEL c ≡ at w SHUT-CHANNEL c
+      flags c l m = flag c l ∙ put-other p SHUT-CHANNEL c (λ e. m (omega arith))
+
+      marks : (c : ℕ) → (c ≡ n → ⊥) → at x FROM c ≡ at w FROM c
+      marks c m = put-other r FROM c (λ e. m (omega arith)) ∙ put-other p FROM c (λ e. omega arith)
+
+-- First all signals, then all channels.
+module _ {z : Size} {v w x : List ℕ} (n : Input z v) (l : Lists z v) (t : StruckSignals z (z .signals) v w)
+    (k : StruckChannels (z .channels) w x) where
+  signals-stay : Same 0 CHANNEL x w
+  signals-stay = same-part _ _ (omega arith) (omega arith) (k .below)
+
+  mark : (c : ℕ) → c < z .channels → at w FROM c ≡ at v FROM c
+  mark c h = same-at (t .spared .marks) FROM c (omega arith) (omega (arith, n .few-channels))
+
+  module _ (s : ℕ) (h : s < z .signals) where
+    flag : at x SHUT-SIGNAL s ≡ at w SHUT-SIGNAL s
+    flag = same-at (k .below) SHUT-SIGNAL s (omega arith) (omega (arith, n .few-signals))
+
+    end : at x END s ≡ at w END s
+    end = same-at (k .below) END s (omega arith) (omega (arith, n .few-signals))
+
+    most : at w END s ≤ 3000
+    most = omega (arith, t .done s h .less .shorter, end-most n l s h)
+
+    struck-list : {c : ℕ} → InList x s c → InList w s c
+    struck-list {c} i = same-in-list (same-sym signals-stay) s c (omega (arith, n .few-signals)) (omega (arith, end, most)) i
+
+  pub both-struck : Struck z v x
+  both-struck =
+      record {
+        input = same-trans (same-part _ _ (omega arith) (omega arith) (k .below)) (t .spared .input);
+        mates = same-trans (same-part _ _ (omega arith) (omega arith) (k .below)) (t .spared .mates);
+        cleared = k .cleared;
+        shut-signal = λ s h q. flag s h ∙ t .done s h .shut q;
+        open-signal = λ s h q. flag s h ∙ t .done s h .as-it-was q;
+        shut-channel = λ c h q. k .shut c h (omega (arith, mark c h));
+        open-channel = λ c h q.
+            k .as-it-was c h (mark c h ∙ q) ∙ same-at (t .spared .marks) SHUT-CHANNEL c (omega arith) (omega (arith, n .few-channels));
+        shorter = λ s h. omega (arith, end s h, t .done s h .less .shorter);
+        order = λ s h.
+            omega (arith, end s h, same-at (k .below) START s (omega arith) (omega (arith, n .few-signals)), t .done s h .less .order);
+        only = λ s c h i. t .done s h .less .only c (struck-list s h i);
+        struck = λ s c h i q. t .done s h .struck c (struck-list s h i) q;
+        kept = λ s c h i q. same-in-list signals-stay s c (omega (arith, n .few-signals)) (most s h) (t .done s h .kept c i q);
+      }

@@ -1,0 +1,85 @@
+// Striking: the cover that the failed searches of a rank leave is read off the marks.
+ghost use Prim.Native.Nat.{_<_};
+ghost use Rattle.placer.specs.State.{Input, Lists, Mates, Struck, StruckChannels, StruckOne, StruckSignals, Thinned};
+use crate::Size;
+use crate::work::CHANNEL;
+use crate::work::END;
+use crate::work::FROM;
+use crate::work::LIVE;
+use crate::work::NONE;
+use crate::work::SHUT_CHANNEL;
+use crate::work::SHUT_SIGNAL;
+use crate::work::START;
+use crate::work::get;
+use crate::work::put;
+
+// Shuts every signal that sits on an unmarked channel, and takes the marked channels out of its list; then shuts every marked
+// channel and takes the marks away.
+pub(crate) fn strike(w: &mut [u16], size: Size)
+    requires { ⌜ Input size (now w) × Lists size (now w) × Mates size (now w) ⌝ }
+    ensures { λ _. ⌜ Struck size (now (w .entry)) (now (w .exit)) ⌝ }
+{
+    strike_signals(w, size);
+    strike_channels(w, size);
+}
+
+fn strike_signals(w: &mut [u16], size: Size)
+    requires { ⌜ Input size (now w) × Lists size (now w) × Mates size (now w) ⌝ }
+    ensures { λ _. ⌜ StruckSignals size (size .signals) (now (w .entry)) (now (w .exit)) ⌝ }
+{
+    let signals = size.signals;
+    let mut s = 0;
+    while s < signals {
+        strike_signal(w, size, s);
+        s += 1;
+    }
+}
+
+// One signal: where it sits on an unmarked channel its list is thinned and it is shut.
+fn strike_signal(w: &mut [u16], size: Size, s: usize)
+    requires { ⌜ Input size (now w) × Lists size (now w) × Mates size (now w) × (s < size .signals) ⌝ }
+    ensures { λ _. ⌜ StruckOne size s (now (w .entry)) (now (w .exit)) ⌝ }
+{
+    let c = get(w, CHANNEL, s);
+    if c < NONE {
+        if get(w, FROM, c) == NONE {
+            thin(w, size, s);
+            put(w, SHUT_SIGNAL, s, 1);
+        }
+    }
+}
+
+// Keeps of a signal's list the channels that are not marked.
+fn thin(w: &mut [u16], size: Size, s: usize)
+    requires { ⌜ Input size (now w) × Lists size (now w) × (s < size .signals) ⌝ }
+    ensures { λ _. ⌜ Thinned size s (now (w .entry)) (now (w .exit)) ⌝ }
+{
+    let end = get(w, END, s);
+    let mut k = get(w, START, s);
+    let mut kept = k;
+    while k < end {
+        let c = get(w, LIVE, k);
+        if get(w, FROM, c) == NONE {
+            put(w, LIVE, kept, c);
+            kept += 1;
+        }
+        k += 1;
+    }
+    put(w, END, s, kept);
+}
+
+// Every marked channel; what is not none is taken for a mark, so that none is left.
+fn strike_channels(w: &mut [u16], size: Size)
+    requires { ⌜ Input size (now w) ⌝ }
+    ensures { λ _. ⌜ StruckChannels (size .channels) (now (w .entry)) (now (w .exit)) ⌝ }
+{
+    let channels = size.channels;
+    let mut c = 0;
+    while c < channels {
+        if get(w, FROM, c) != NONE {
+            put(w, SHUT_CHANNEL, c, 1);
+            put(w, FROM, c, NONE);
+        }
+        c += 1;
+    }
+}

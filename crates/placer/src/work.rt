@@ -1,0 +1,48 @@
+// The work area's regions, and the two functions that all access to it goes through. specs/Work says what each region holds.
+ghost use mathlib.Core.Path.{_≡_};
+ghost use Prim.Native.Nat.{_+_, _<_};
+ghost use lib.ListN.{length};
+ghost use Rattle.placer.specs.Work.{at, Put};
+
+pub(crate) const PAIR: usize = 0;
+
+pub(crate) const LINK: usize = 3000;
+
+pub(crate) const FIRST: usize = 6000;
+
+pub(crate) const START: usize = 6016;
+
+pub(crate) const LIVE: usize = 6217;
+
+pub(crate) const END: usize = 9217;
+
+pub(crate) const CHANNEL: usize = 9417;
+
+pub(crate) const SIGNAL: usize = 9617;
+
+pub(crate) const SHUT_SIGNAL: usize = 9817;
+
+pub(crate) const SHUT_CHANNEL: usize = 10017;
+
+pub(crate) const FROM: usize = 10217;
+
+pub(crate) const QUEUE: usize = 10417;
+
+// No signal, or no channel.
+pub(crate) const NONE: usize = 255;
+
+// Number i of the region that starts at `off`.
+pub(crate) fn get(w: &[u16], off: usize, i: usize) -> usize
+    requires { ⌜ off + i < length (now w) ⌝ }
+    ensures { λ r. ⌜ (r ≡ at (now (w .entry)) off i) × (r < 65536) ⌝ }
+{
+    w[off + i] as usize
+}
+
+// Puts x there.
+pub(crate) fn put(w: &mut [u16], off: usize, i: usize, x: usize)
+    requires { ⌜ (off + i < length (now w)) × (x < 65536) ⌝ }
+    ensures { λ _. ⌜ Put (now (w .entry)) off i x (now (w .exit)) ⌝ }
+{
+    w[off + i] = x as u16;
+}
