@@ -2,10 +2,10 @@
 use Prim.Native.Nat.{ℕ, _≤_, _<_}
 use mathlib.Core.Path.{_≡_}
 use mathlib.Core.List.{List}
-use Rattle.plans.specs.Plan.{Table, Places, Plan}
+use Rattle.plans.specs.Plan.{Table, Places, Plan, line}
 use Rattle.plans.specs.Covers.{Covers, Certificate, Tight}
 use Rattle.placer.specs.declared.Size.{Size}
-use Rattle.placer.specs.Work.{at, CHANNEL, MIDDLE, signalAt, channelAt, rankAt, Same}
+use Rattle.placer.specs.Work.{at, none, CHANNEL, RANK, COUNT, MIDDLE, WHOLE, signalAt, channelAt, rankAt, Same}
 use Rattle.placer.specs.State.{Listed, Mates}
 
 -- The table with these numbers and these ranks, and one slot for every channel.
@@ -34,3 +34,11 @@ pub record PlacedFrom (z : Size) (v w : List ℕ) : Type 0 where
   pub table : Same 0 MIDDLE w v
   pub mates : Mates z w
   pub placed : (rank : ℕ → ℕ → ℕ) → Ranks z rank v → Placed z rank w
+
+-- What tallying leaves of the area v, for every table whose ranks it lists and whose plan lies in it: the rank of each place,
+-- 0 where a signal has none, and the plan's counts.
+pub record Tallied (z : Size) (v w : List ℕ) : Type 0 where
+  pub below : Same 0 WHOLE w v
+  pub rank : (rank : ℕ → ℕ → ℕ) → Ranks z rank v → (s : ℕ) → s < z .signals → at v CHANNEL s < z .channels → at w RANK s ≡ rank s (at v CHANNEL s)
+  pub unranked : (s : ℕ) → s < z .signals → at v CHANNEL s ≡ none → at w RANK s ≡ 0
+  pub counts : (rank : ℕ → ℕ → ℕ) → Ranks z rank v → (i : ℕ) → i < z .ranks → at w COUNT i ≡ line (tableWith z rank) (places v) i

@@ -63,9 +63,16 @@ FROM = 10217
 abbrev pub QUEUE : ℕ
 QUEUE = 10417
 
--- the end of the last region
+-- the end of the regions that placing uses
 abbrev pub WHOLE : ℕ
 WHOLE = 10617
+
+-- the tally of a finished plan: the rank of each signal's place, 0 where it has none, and the counts, rank 1 first
+abbrev pub RANK : ℕ
+RANK = 10617
+
+abbrev pub COUNT : ℕ
+COUNT = 10817
 
 -- Of entry e: its signal, its channel, the next entry of the same rank, and its rank.
 unfoldable pub signalAt : List ℕ → ℕ → ℕ

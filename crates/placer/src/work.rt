@@ -28,6 +28,10 @@ pub(crate) const FROM: usize = 10217;
 
 pub(crate) const QUEUE: usize = 10417;
 
+pub(crate) const RANK: usize = 10617;
+
+pub(crate) const COUNT: usize = 10817;
+
 // No signal, or no channel.
 pub(crate) const NONE: usize = 255;
 

@@ -10,6 +10,7 @@ pub mod Cut
 pub mod Beside
 pub mod OneMore
 pub mod Laws
+pub mod SameTables
 pub mod Ways
 pub mod Rows
 pub mod LooksGood
