@@ -1,4 +1,5 @@
--- Why placing keeps its promise: Area, then a file or two for each step, then the rank loop (Standing, Loop) and the end (Best).
+-- Why placing keeps its promise: Area, then a file or two for each step, then the rank loop (Standing, Loop) and the end (Best);
+-- and why unpacking does (Links, Starts, Unpacks).
 pub mod Area
 pub mod Ready
 pub mod Waiting
@@ -13,3 +14,7 @@ pub mod Strikes
 pub mod Standing
 pub mod Loop
 pub mod Best
+pub mod Links
+pub mod Starts
+pub mod Unpacks
+pub mod Holding

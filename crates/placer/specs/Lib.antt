@@ -1,3 +1,4 @@
 pub mod Work
 pub mod State
 pub mod Placing
+pub mod Unpacking

@@ -1,11 +1,13 @@
 // The placer: it finds a best plan of a table that lies unpacked in the work area, rank by rank, and keeps what shows it to be
-// best. specs/Work says how the area is laid out, specs/State what each step does to it, specs/Placing what placing promises.
+// best. specs/Work says how the area is laid out, specs/State what each step does to it, specs/Unpacking what unpacking promises
+// and specs/Placing what placing does.
 mod entering;
 mod flipping;
 mod growing;
 mod preparing;
 mod searching;
 mod striking;
+pub mod unpacking;
 mod work;
 
 ghost use Rattle.placer.specs.State.{Input};

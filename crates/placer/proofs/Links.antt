@@ -1,0 +1,199 @@
+-- Unpacking the entries: what a field of 20 bits says of an entry, that ranks start without a chain (unchained-more), and that
+-- putting an entry before the chain of its rank keeps the chains (chained-none, chained-more). Leans on proofs/Area and the laws
+-- of fields.
+use Prim.Native.Nat.{ℕ, suc, _+_, _*_, _/_, _%_, _≤_, _<_}
+use mathlib.Core.Path.{_≡_, refl, ap, sym, _∙_}
+use mathlib.Core.List.{List}
+use native.Mathlib.Decide.{ℕ-discrete}
+use native.Mathlib.Omega.{arith}
+use borrow.Author.Count.{below-more}
+use lib.ListN.{length}
+use Rattle.fields.specs.Fields.{fieldAt}
+use Rattle.fields.proofs.Bits.{field-bound, field-left, field-right}
+use Rattle.table.specs.Payload.{entryBit, entryIn}
+use Rattle.placer.specs.Work.{at, PAIR, LINK, FIRST, signalAt, channelAt, nextAt, rankAt, Put}
+use Rattle.placer.specs.Unpacking.{Unchained, Chained}
+use Rattle.placer.proofs.Area.{put-other}
+
+-- The field of entry e, and its three parts
+module _ (p : List ℕ) (e : ℕ) {x : ℕ} (read : x ≡ fieldAt p (32 + 20 * e) 20) where
+  pub entry-small : x < 1048576
+  entry-small = rw read (field-bound p (32 + 20 * e) 20)
+
+  entry-signal : x / 16 / 256 ≡ entryIn p e .signal
+  unfolding entryIn entryBit
+  entry-signal = ap (λ (y : ℕ). y / 16 / 256) read ∙ ap (λ (y : ℕ). y / 256) (field-left p (32 + 20 * e) 16 4) ∙ field-left p (32 + 20 * e) 8 8
+
+  entry-channel : x / 16 % 256 ≡ entryIn p e .channel
+  unfolding entryIn entryBit
+  entry-channel = ap (λ (y : ℕ). y / 16 % 256) read ∙ ap (λ (y : ℕ). y % 256) (field-left p (32 + 20 * e) 16 4) ∙ field-right p (32 + 20 * e) 8 8
+
+  entry-rank : x % 16 ≡ entryIn p e .rank
+  unfolding entryIn entryBit
+  entry-rank = ap (λ (y : ℕ). y % 16) read ∙ field-right p (32 + 20 * e) 16 4
+
+-- The first r ranks have no entry yet.
+pub record Unchaining (pairs r : ℕ) (v w : List ℕ) : Type 0 where
+  pub size : length w ≡ length v
+  pub first : (i : ℕ) → i < r → at w FIRST i ≡ pairs
+
+pub unchained-none : (pairs : ℕ) (w : List ℕ) → Unchaining pairs 0 w w
+unchained-none pairs w = record { size = refl; first = λ i l. absurd (omega arith) }
+
+pub unchained-more : {pairs r : ℕ} {v w x : List ℕ} → Unchaining pairs r v w → Put w FIRST r pairs x → Unchaining pairs (r + 1) v x
+unchained-more {pairs} {r} {x = x} u p =
+    record {
+      size = p .size ∙ u .size;
+      first = below-more (λ i. at x FIRST i ≡ pairs) r (λ i l. put-other p FIRST i (λ e. omega arith) ∙ u .first i l) (p .here);
+    }
+
+pub unchained-all : {pairs r : ℕ} {v w : List ℕ} → 16384 ≤ length v → Unchaining pairs r v w → 16 ≤ r → Unchained pairs w
+unchained-all l u m = record { room = omega (arith, u .size); first = λ i k. u .first i (omega arith) }
+
+-- No entry is chained yet.
+pub chained-none : {p : List ℕ} {pairs : ℕ} {w : List ℕ} → Unchained pairs w → Chained p pairs pairs w
+chained-none u =
+    record {
+      room = u .room;
+      signal = λ e l m. absurd (omega arith);
+      channel = λ e l m. absurd (omega arith);
+      rank = λ e l m. absurd (omega arith);
+      first-from = λ r l. omega (arith, u .first r l);
+      first-most = λ r l. omega (arith, u .first r l);
+      first-is = λ r l m. absurd (omega (arith, u .first r l));
+      first-skips = λ r e l m k q. omega (arith, u .first r l);
+      next-later = λ e l m. absurd (omega arith);
+      next-is = λ e l m k. absurd (omega arith);
+      next-skips = λ e j l m k i h q. omega arith;
+    }
+
+-- One turn: entry n, with those behind it chained
+module _ {p : List ℕ} {pairs n e x next : ℕ} {w w₁ w₂ w₃ : List ℕ} (c : Chained p pairs e w) (few : pairs ≤ 3000) (down : suc n ≡ e)
+    (more : e ≤ pairs) (read : x ≡ fieldAt p (32 + 20 * n) 20) (first : next ≡ at w FIRST (x % 16)) (pair : Put w PAIR n (x / 16) w₁)
+    (link : Put w₁ LINK n (next * 16 + x % 16) w₂) (head : Put w₂ FIRST (x % 16) n w₃) where
+  small : x % 16 < 16
+  small = omega arith
+
+  -- what lies at n, and which chain starts there
+  pair-here : at w₃ PAIR n ≡ x / 16
+  pair-here = put-other head PAIR n (λ q. omega arith) ∙ put-other link PAIR n (λ q. omega arith) ∙ pair .here
+
+  link-here : at w₃ LINK n ≡ next * 16 + x % 16
+  link-here = put-other head LINK n (λ q. omega arith) ∙ link .here
+
+  rank-here : rankAt w₃ n ≡ x % 16
+  unfolding rankAt
+  rank-here = omega (arith, link-here)
+
+  next-here : nextAt w₃ n ≡ next
+  unfolding nextAt
+  next-here = omega (arith, link-here)
+
+  -- entries behind it, and other chains, are as they were
+  module _ (i : ℕ) (from : e ≤ i) (below : i < pairs) where
+    pair-behind : at w₃ PAIR i ≡ at w PAIR i
+    pair-behind = put-other head PAIR i (λ q. omega arith) ∙ put-other link PAIR i (λ q. omega arith) ∙ put-other pair PAIR i (λ q. omega arith)
+
+    link-behind : at w₃ LINK i ≡ at w LINK i
+    link-behind = put-other head LINK i (λ q. omega arith) ∙ put-other link LINK i (λ q. omega arith) ∙ put-other pair LINK i (λ q. omega arith)
+
+    rank-behind : rankAt w₃ i ≡ rankAt w i
+    unfolding rankAt
+    rank-behind = ap (λ (y : ℕ). y % 16) link-behind
+
+    next-behind : nextAt w₃ i ≡ nextAt w i
+    unfolding nextAt
+    next-behind = ap (λ (y : ℕ). y / 16) link-behind
+
+    signal-behind : signalAt w₃ i ≡ entryIn p i .signal
+    unfolding signalAt
+    signal-behind = ap (λ (y : ℕ). y / 256) pair-behind ∙ c .signal i from below
+
+    channel-behind : channelAt w₃ i ≡ entryIn p i .channel
+    unfolding channelAt
+    channel-behind = ap (λ (y : ℕ). y % 256) pair-behind ∙ c .channel i from below
+
+  signal-here : signalAt w₃ n ≡ entryIn p n .signal
+  unfolding signalAt
+  signal-here = ap (λ (y : ℕ). y / 256) pair-here ∙ entry-signal p n read
+
+  channel-here : channelAt w₃ n ≡ entryIn p n .channel
+  unfolding channelAt
+  channel-here = ap (λ (y : ℕ). y % 256) pair-here ∙ entry-channel p n read
+
+  first-other : (r : ℕ) → r < 16 → (r ≡ x % 16 → ⊥) → at w₃ FIRST r ≡ at w FIRST r
+  first-other r l q = put-other head FIRST r (λ k. q (omega arith)) ∙ put-other link FIRST r (λ k. omega arith) ∙ put-other pair FIRST r (λ k. omega arith)
+
+  -- what holds of n and of every entry behind it
+  from-here : (P : ℕ → Type 0) → P n → ((i : ℕ) → e ≤ i → i < pairs → P i) → (i : ℕ) → n ≤ i → i < pairs → P i
+  from-here P here behind i l m = pick (ℕ-discrete i n)
+    where
+      pick : Dec (i ≡ n) → P i
+      pick (yes q) = rw q here
+      pick (no q) = behind i (omega arith) m
+
+  -- what holds of this rank and of every other
+  each-rank : (P : ℕ → Type 0) → P (x % 16) → ((r : ℕ) → r < 16 → (r ≡ x % 16 → ⊥) → P r) → (r : ℕ) → r < 16 → P r
+  each-rank P here other r l = pick (ℕ-discrete r (x % 16))
+    where
+      pick : Dec (r ≡ x % 16) → P r
+      pick (yes q) = rw q here
+      pick (no q) = other r l q
+
+  pub chained-more : Chained p pairs n w₃
+  chained-more =
+      record {
+        room = omega (arith, head .size, link .size, pair .size, c .room);
+        signal = from-here (λ i. signalAt w₃ i ≡ entryIn p i .signal) signal-here signal-behind;
+        channel = from-here (λ i. channelAt w₃ i ≡ entryIn p i .channel) channel-here channel-behind;
+        rank =
+            from-here (λ i. rankAt w₃ i ≡ entryIn p i .rank) (rank-here ∙ entry-rank p n read)
+            (λ i l m. rank-behind i l m ∙ c .rank i l m);
+        first-from =
+            each-rank (λ r. n ≤ at w₃ FIRST r) (omega (arith, head .here))
+            (λ r l q. omega (arith, first-other r l q, c .first-from r l));
+        first-most =
+            each-rank (λ r. at w₃ FIRST r ≤ pairs) (omega (arith, head .here))
+            (λ r l q. omega (arith, first-other r l q, c .first-most r l));
+        first-is =
+            each-rank (λ r. at w₃ FIRST r < pairs → rankAt w₃ (at w₃ FIRST r) ≡ r) (λ k. rw (head .here) rank-here)
+            (λ r l q k.
+            let same : at w₃ FIRST r ≡ at w FIRST r = first-other r l q in
+            let k′ : at w FIRST r < pairs = omega arith in
+            rw same (rank-behind (at w FIRST r) (c .first-from r l) k′ ∙ c .first-is r l k′));
+        first-skips = λ r i l. first-skips r l i;
+        next-later =
+            from-here (λ i. i < nextAt w₃ i) (omega (arith, next-here, c .first-from (x % 16) small))
+            (λ i l m. omega (arith, next-behind i l m, c .next-later i l m));
+        next-is = from-here (λ i. nextAt w₃ i < pairs → rankAt w₃ (nextAt w₃ i) ≡ rankAt w₃ i) next-is-here next-is-behind;
+        next-skips = λ i j l m. next-skips i l m j;
+      }
+    where
+      first-skips : (r : ℕ) → r < 16 → (i : ℕ) → n ≤ i → i < at w₃ FIRST r → rankAt w₃ i ≡ r → ⊥
+      first-skips =
+          each-rank (λ r. (i : ℕ) → n ≤ i → i < at w₃ FIRST r → rankAt w₃ i ≡ r → ⊥) (λ i m k q. omega (arith, head .here))
+          (λ r l q i m k.
+          let k′ : i < at w FIRST r = omega (arith, first-other r l q) in
+          from-here (λ j. j < at w FIRST r → rankAt w₃ j ≡ r → ⊥) (λ h s. q (sym s ∙ rank-here))
+          (λ j f b h s. c .first-skips r j l f h (sym (rank-behind j f b) ∙ s))
+          i m (omega (arith, c .first-most r l)) k′)
+
+      next-is-here : nextAt w₃ n < pairs → rankAt w₃ (nextAt w₃ n) ≡ rankAt w₃ n
+      next-is-here k =
+          let same : nextAt w₃ n ≡ at w FIRST (x % 16) = next-here ∙ first in
+          let k′ : at w FIRST (x % 16) < pairs = omega arith in
+          rw same (rank-behind (at w FIRST (x % 16)) (c .first-from (x % 16) small) k′ ∙ c .first-is (x % 16) small k′ ∙ sym rank-here)
+
+      next-is-behind : (i : ℕ) → e ≤ i → i < pairs → nextAt w₃ i < pairs → rankAt w₃ (nextAt w₃ i) ≡ rankAt w₃ i
+      next-is-behind i l m k =
+          let same : nextAt w₃ i ≡ nextAt w i = next-behind i l m in
+          let k′ : nextAt w i < pairs = omega arith in
+          rw same (rank-behind (nextAt w i) (omega (arith, c .next-later i l m)) k′ ∙ c .next-is i l m k′ ∙ sym (rank-behind i l m))
+
+      next-skips : (i : ℕ) → n ≤ i → i < pairs → (j : ℕ) → i < j → j < nextAt w₃ i → j < pairs → rankAt w₃ j ≡ rankAt w₃ i → ⊥
+      next-skips =
+          from-here (λ i. (j : ℕ) → i < j → j < nextAt w₃ i → j < pairs → rankAt w₃ j ≡ rankAt w₃ i → ⊥)
+          (λ j k h b q.
+          c .first-skips (x % 16) j small (omega arith) (omega (arith, next-here)) (sym (rank-behind j (omega arith) b) ∙ q ∙ rank-here))
+          (λ i l m j k h b q.
+          c .next-skips i j l m k (omega (arith, next-behind i l m)) b (sym (rank-behind j (omega arith) b) ∙ q ∙ rank-behind i l m))

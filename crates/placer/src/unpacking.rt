@@ -1,0 +1,83 @@
+// A payload's table is unpacked into the work area: its entries, chained by rank, and where each signal's entries start.
+ghost use Prim.Native.Nat.{_≤_};
+ghost use lib.ListN.{length};
+ghost use Rattle.table.specs.Checking.{Sound};
+ghost use Rattle.placer.specs.Unpacking.{SizeOf, Unpacked, Unchained, Chained, Ordered, Passed, Started};
+use crate::Size;
+use crate::work::FIRST;
+use crate::work::LINK;
+use crate::work::PAIR;
+use crate::work::START;
+use crate::work::get;
+use crate::work::put;
+use fields::read;
+
+pub fn unpack(payload: &[u8], w: &mut [u16], size: Size)
+    requires { ⌜ Sound (now payload) × SizeOf (now payload) size × (16384 ≤ length (now w)) ⌝ }
+    ensures { λ _. ⌜ Unpacked (now (payload .entry)) size (now (w .exit)) ⌝ }
+{
+    unchain(w, size.pairs);
+    chain(payload, w, size.pairs);
+    find_starts(w, size);
+}
+
+// Every rank's chain is empty.
+fn unchain(w: &mut [u16], pairs: usize)
+    requires { ⌜ (16384 ≤ length (now w)) × (pairs ≤ 3000) ⌝ }
+    ensures { λ _. ⌜ Unchained pairs (now (w .exit)) ⌝ }
+{
+    let mut r = 0;
+    while r < 16 {
+        put(w, FIRST, r, pairs);
+        r += 1;
+    }
+}
+
+// The entries, from the last to the first, each put before the chain of its rank.
+fn chain(payload: &[u8], w: &mut [u16], pairs: usize)
+    requires { ⌜ Unchained pairs (now w) × (pairs ≤ 3000) ⌝ }
+    ensures { λ _. ⌜ Chained (now (payload .entry)) pairs 0 (now (w .exit)) ⌝ }
+{
+    let mut e = pairs;
+    while 0 < e {
+        e -= 1;
+        let entry = read(payload, 32 + 20 * e, 20) as usize;
+        let rank = entry % 16;
+        let next = get(w, FIRST, rank);
+        put(w, PAIR, e, entry / 16);
+        put(w, LINK, e, next * 16 + rank);
+        put(w, FIRST, rank, e);
+    }
+}
+
+// Each signal starts where the entries of the one before end.
+fn find_starts(w: &mut [u16], size: Size)
+    requires { ⌜ Ordered size (now w) ⌝ }
+    ensures { λ _. ⌜ Started size (now (w .entry)) (now (w .exit)) ⌝ }
+{
+    let signals = size.signals;
+    let pairs = size.pairs;
+    let mut e = 0;
+    let mut s = 0;
+    while s < signals {
+        put(w, START, s, e);
+        e = pass(w, pairs, s, e);
+        s += 1;
+    }
+    put(w, START, signals, e);
+}
+
+// The first entry from `start` on whose signal is not s.
+fn pass(w: &[u16], pairs: usize, s: usize, start: usize) -> usize
+    requires { ⌜ (16384 ≤ length (now w)) × (pairs ≤ 3000) × (start ≤ pairs) ⌝ }
+    ensures { λ r. ⌜ Passed pairs (now (w .entry)) s start r ⌝ }
+{
+    let mut e = start;
+    while e < pairs {
+        if get(w, PAIR, e) / 256 != s {
+            return e;
+        }
+        e += 1;
+    }
+    e
+}

@@ -1,0 +1,3 @@
+pub mod Payload
+pub mod Checking
+pub mod Making
