@@ -2,10 +2,11 @@
 -- h is the head that was read.
 use Prim.Native.Nat.{ℕ, _+_, _-_, _*_, _≤_, _<_}
 use mathlib.Core.Path.{_≡_, ap, _∙_}
-use mathlib.Core.Bool.{true, false, or-true}
+use mathlib.Core.Bool.{true, false, cond, or-true}
 use mathlib.Core.List.{List}
 use native.Mathlib.Omega.{arith}
 use lib.ListN.{length}
+use lib.Dec.{eqb}
 use borrow.Author.Tests.{lt-ltb, le-ltb, eq-eqb, ne-eqb}
 use Rattle.units.specs.Units.{bytesOf}
 use Rattle.fields.specs.Fields.{fieldAt}
@@ -61,14 +62,15 @@ module _ {p : List ℕ} {h : Head} (r : HeadFits p h) where
   unfolding headIn
   counted = ap (λ (k : Head). k .pairs .0) (r .read .is-head)
 
+  -- what is left to be judged
+  past-row-5 : checkedOf p
+      ≡ cond (eqb (length p) (payloadLength (pairsIn p))) (cond (eqb (fillIn p) 0) (judged p (pairsIn p)) DirtyFill) WrongLength
+  unfolding checkedOf
+  past-row-5 = rw (le-ltb (length p) 4 (r .read .long), not-too-large)
+
   pub wrong-length : (length p ≡ 4 + bytesOf (h .pairs .0) → ⊥) → WrongLength ≡ checkedOf p
-  unfolding checkedOf payloadLength
-  wrong-length e =
-      rw (
-        le-ltb (length p) 4 (r .read .long),
-        not-too-large,
-        ne-eqb (length p) (payloadLength (pairsIn p)) (λ sized. e (omega (arith, counted))),
-      )
+  unfolding payloadLength
+  wrong-length e = rw (past-row-5, ne-eqb (length p) (payloadLength (pairsIn p)) (λ sized. e (omega (arith, counted))))
 
   -- x is what was read from bit `at`, where the entries end, to the payload's end
   module _ (sized : length p ≡ 4 + bytesOf (h .pairs .0)) (x at w : ℕ) (read : x ≡ fieldAt p at w)
@@ -85,21 +87,9 @@ module _ {p : List ℕ} {h : Head} (r : HeadFits p h) where
         read ∙ rw (from, width)
 
     pub dirty-fill : (x ≡ 0 → ⊥) → DirtyFill ≡ checkedOf p
-    unfolding checkedOf
     dirty-fill e =
-        rw (
-          le-ltb (length p) 4 (r .read .long),
-          not-too-large,
-          eq-eqb (length p) (payloadLength (pairsIn p)) right-length,
-          ne-eqb (fillIn p) 0 (rw is-fill at e),
-        )
+        rw (past-row-5, eq-eqb (length p) (payloadLength (pairsIn p)) right-length, ne-eqb (fillIn p) 0 (rw is-fill at e))
 
     pub clean-fill : x ≡ 0 → judged p (pairsIn p) ≡ checkedOf p
-    unfolding checkedOf
     clean-fill e =
-        rw (
-          le-ltb (length p) 4 (r .read .long),
-          not-too-large,
-          eq-eqb (length p) (payloadLength (pairsIn p)) right-length,
-          eq-eqb (fillIn p) 0 (rw is-fill at e),
-        )
+        rw (past-row-5, eq-eqb (length p) (payloadLength (pairsIn p)) right-length, eq-eqb (fillIn p) 0 (rw is-fill at e))

@@ -1,11 +1,10 @@
 -- What checking a bare payload answers, for every byte string (rows 4 to 9 of document 01's table of refusals).
-use Prim.Native.Nat.{ℕ, zero, suc, _+_, _≤_, _<_}
+use Prim.Native.Nat.{ℕ, zero, suc, _≤_, _<_}
 use mathlib.Core.Path.{_≡_}
-use mathlib.Core.Bool.{Bool, true, false, not, cond, _&&_, _||_}
+use mathlib.Core.Bool.{Bool, false, not, cond, _&&_, _||_}
 use mathlib.Core.List.{List}
 use lib.ListN.{length}
 use lib.Dec.{eqb, ltb, leb}
-use Rattle.units.specs.declared.Entries.{Entries}
 use Rattle.plans.specs.Tables.{Entry}
 use Rattle.table.specs.declared.Head.{Head}
 use Rattle.table.specs.declared.Checked.{Checked}
