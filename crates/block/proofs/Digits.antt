@@ -66,11 +66,11 @@ pub counting-none : (s : List ℕ) (k : ℕ) → Counting s k 0 0
 unfolding digitsAt2 countAt2
 counting-none s k = record { within = omega arith; digits = refl; value = refl; small = omega arith }
 
-pub counting-more : {s : List ℕ} {k count i : ℕ} (d : ℕ) → Counting s k count i → i < k → d ≡ getD s (2 + i) 0
-    → 48 ≤ d → d ≤ 57 → Counting s k (count * 10 + (d - 48)) (i + 1)
+pub counting-more : {s : List ℕ} {k count i : ℕ} (d more : ℕ) → Counting s k count i → i < k → d ≡ getD s (2 + i) 0
+    → 48 ≤ d → d ≤ 57 → more ≡ count * 10 + (d - 48) → Counting s k more (i + 1)
 unfolding digitsAt2 countAt2
-counting-more {s} {k} {count} {i} d n l e lo hi =
-    rw (add-one i)
+counting-more {s} {k} {count} {i} d more n l e lo hi v =
+    rw (v, add-one i)
     (record {
       within = omega arith;
       digits = rw (n .digits, ← e) (digit-yes d lo hi);

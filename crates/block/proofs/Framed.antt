@@ -3,7 +3,7 @@ use Prim.Native.Nat.{ℕ, suc, _+_, _-_, _≤_, _<_}
 use mathlib.Core.Path.{_≡_, refl, ap, sym, _∙_}
 use mathlib.Core.List.{List, [], _∷_, _++_, append-assoc}
 use native.Mathlib.Omega.{arith}
-use lib.ListN.{length, take, drop, length-append, length-drop}
+use lib.ListN.{length, take, drop, length-append}
 use lib.Seq.{take-length, take-at, drop-at, drop-drop}
 use borrow.Author.Tests.{lt-ltb, le-ltb}
 use borrow.Rule.Slice.PartMut.{midOf, putMid, same-len-mid}
@@ -47,14 +47,14 @@ module _ (p area : List ℕ) where
     frame-no-room h =
         record { answer = rw (le-ltb longest (length p) short, lt-ltb (length area) (blockLength (length p)) (omega (arith, whole))); bytes = refl }
 
-    -- the header is in place, and the payload goes into the part behind it
-    module _ (fits : 2 + k + length p ≤ length area) (r : ℕ) (after : List ℕ) (w : Heads (length p) area r after) where
+    -- the header of m bytes, which are the payload's, is in place, and the payload goes into the part behind it
+    module _ (fits : 2 + k + length p ≤ length area) (m r : ℕ) (after : List ℕ) (w : Heads m area r after) (counts : m ≡ length p) where
       room : headerLength (length p) + length p ≤ length area
       unfolding blockLength
       room = omega (arith, whole)
 
       head : Headed (length p) area r after
-      head = headed w short (omega (arith, room))
+      head = headed (rw counts at w) short (omega (arith, room))
 
       header-size : length (headerOf (length p)) ≡ r
       header-size = length-header (length p) ∙ sym (head .size)
@@ -65,12 +65,9 @@ module _ (p area : List ℕ) where
       before : take r after ≡ headerOf (length p)
       before = rw (head .bytes) (take-at (headerOf (length p)) (drop (headerLength (length p)) area) r header-size)
 
-      pub header-inside : r ≤ length after
-      header-inside = omega (arith, head .size, ap length (head .bytes), length-append (headerOf (length p)) (drop (headerLength (length p)) area), length-header (length p))
-
-      pub payload-inside : length p ≤ length (midOf r (length after - r) after)
-      payload-inside =
-          rw (tail-lent r after, behind) (omega (arith, length-drop (headerLength (length p)) area, room))
+      pub header-long : r ≡ 2 + k
+      unfolding headerLength
+      header-long = head .size ∙ ap (λ (d : ℕ). 2 + d) (sym wide)
 
       pub frame-written : (last : List ℕ) → last ≡ take (length p) p ++ drop (length p) (midOf r (length after - r) after)
           → Frames p area (Framed (record { 0 = 2 + k + length p })) (putMid r (length after - r) after last)

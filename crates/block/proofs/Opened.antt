@@ -42,11 +42,11 @@ module _ (s : List ℕ) (end : ℕ) (first : end ≡ 2 + indexOf 10 (slice 2 (le
   unfolding slice
   newline = first ∙ ap (λ (l : List ℕ). 2 + indexOf 10 (drop 2 l)) (take-length s)
 
-  pub ended-last : end + 1 ≡ length s → endedOf s ≡ from 2 (end - 2)
+  pub ended-last : (n : ℕ) → end + 1 ≡ length s → n + 2 ≡ end → endedOf s ≡ from 2 n
   unfolding endedOf
-  ended-last e =
-      let n : indexOf 10 (drop 2 s) ≡ end - 2 = omega (arith, newline) in
-      rw (eq-eqb (2 + indexOf 10 (drop 2 s) + 1) (length s) (omega (arith, newline))) (ap (from 2) n)
+  ended-last n e m =
+      let same : indexOf 10 (drop 2 s) ≡ n = omega (arith, newline) in
+      rw (eq-eqb (2 + indexOf 10 (drop 2 s) + 1) (length s) (omega (arith, newline))) (ap (from 2) same)
 
   pub ended-wrong : (end + 1 ≡ length s → ⊥) → endedOf s ≡ WrongEnd
   unfolding endedOf
@@ -106,7 +106,7 @@ inside s =
 -- The part that the answer's start and length cut out of the input.
 pub record Part (s : List ℕ) (start n : ℕ) : Type 0 where
   pub within : start + n ≤ length s
-  pub bytes : take (start + n - start) (drop start s) ≡ payloadOf s
+  pub bytes : (end : ℕ) → end ≡ start + n → take (end - start) (drop start s) ≡ payloadOf s
 
 pub part : (s : List ℕ) (o : Opening) {start n : ℕ} → o ≡ openingOf s → start ≡ openingStart o → n ≡ openingLength o → Part s start n
 unfolding payloadOf
@@ -115,5 +115,5 @@ part s o {start} {n} eo es en =
     let size : n ≡ openingLength (openingOf s) = en ∙ ap openingLength eo in
     record {
       within = omega (arith, inside s);
-      bytes = simp (add-sub-cancel-left, at, size);
+      bytes = λ end e. rw e (simp (add-sub-cancel-left, at, size));
     }

@@ -31,15 +31,15 @@ pub record Writing (before : List ℕ) (k n : ℕ) (now : List ℕ) (left i : �
 pub writing-none : (l : List ℕ) (k n : ℕ) → Writing l k n l n k
 writing-none l k n = record { within = omega arith; size = refl; goal = refl }
 
-pub writing-more : {before now : List ℕ} {k n left i : ℕ} → Writing before k n now left i → k ≤ length before → 0 < i
-    → Writing before k n (set now (i - 1) (48 + left % 10)) (left / 10) (i - 1)
+pub writing-more : {before now : List ℕ} {k n left i : ℕ} (j digit rest : ℕ) → Writing before k n now left i → k ≤ length before
+    → j + 1 ≡ i → digit ≡ 48 + left % 10 → rest ≡ left / 10 → Writing before k n (set now j digit) rest j
 unfolding digitsOf
-writing-more {i = zero} w h p = absurd (omega arith)
-writing-more {now = now} {left = left} {i = suc j} w h p =
-    let e : suc j - 1 ≡ j = omega arith in
-    rw e
+writing-more {before} {now} {k} {n} {left} {i} j digit rest v h e d r =
+    let next : i ≡ suc j = omega arith in
+    let w : Writing before k n now left (suc j) = rw next at v in
+    rw (d, r)
     (record {
-      within = omega arith;
+      within = omega (arith, w .within);
       size = length-set now j (48 + left % 10) ∙ w .size;
       goal =
           ap (λ (l : List ℕ). digitsOf j (left / 10) ++ l) (drop-set-here now j (48 + left % 10) (omega (arith, w .size, w .within)))

@@ -38,6 +38,10 @@ headerLength n = 2 + widthOf n
 unfoldable pub blockLength : ℕ → ℕ
 blockLength n = headerLength n + n
 
+-- the same, 0 for a payload that is too long to be framed
+unfoldable pub framedLength : ℕ → ℕ
+framedLength n = cond (ltb longest n) 0 (blockLength n)
+
 -- What framing a payload of n bytes into an area of m bytes answers.
 unfoldable pub framingOf : ℕ → ℕ → Framing
 framingOf n m = cond (ltb longest n) TooLong (cond (ltb m (blockLength n)) NoRoom (Framed (record { 0 = blockLength n })))

@@ -5,7 +5,7 @@ ghost use Prim.Native.Nat.{ℕ, _+_, _*_, _≤_, _<_};
 ghost use mathlib.Core.List.{_++_};
 ghost use lib.ListN.{length, getD, drop};
 ghost use Rattle.block.specs.Opening.{isDigit, endedOf, countedOf, openingOf, payloadOf, openingNumber, openingPlace, openingStart, openingLength};
-ghost use Rattle.block.specs.Framing.{widthOf, digitsOf, Heads, Frames, framingNumber, framingPlace, framingLength};
+ghost use Rattle.block.specs.Framing.{framedLength, widthOf, digitsOf, Heads, Frames, framingNumber, framingPlace, framingLength};
 use units::Bytes;
 
 // What opening a block finds: one of three refusals, or where the payload starts and how many bytes it has.
@@ -203,6 +203,17 @@ pub fn put_header(area: &mut [u8], length: Bytes) -> Bytes
     area[1] = (48 + k) as u8;
     put_digits(&mut area[2..], k, n);
     Bytes(2 + k)
+}
+
+// How many bytes the block of a payload of so many bytes has; 0 where it is too long to be framed.
+pub fn framed_length(length: Bytes) -> Bytes
+    ensures { λ r. ⌜ r .0 ≡ framedLength (length .0) ⌝ }
+{
+    let n = length.0;
+    if 7504 < n {
+        return Bytes(0);
+    }
+    Bytes(2 + width(n) + n)
 }
 
 // Frames a payload into the lent area (rows 6 and 10). The payload goes into the area's part from the header's end on.

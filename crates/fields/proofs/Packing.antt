@@ -1,10 +1,11 @@
 -- Packing fields into bytes. Main results: writing field after field holds them all (holds-more); and, at the end, how long
 -- a packing is and that it is made of bytes (length-packed, packed-bytes), that every field reads back and zero bits fill the
--- last byte (packed-reads-back, packed-fill), and that nothing else holds the same fields so (packed-unique).
+-- last byte (packed-reads-back, packed-fill), that nothing else holds the same fields so (packed-unique), and that fields which
+-- fill whole bytes are packed by themselves (packed-append).
 -- Leans on proofs/Bits and proofs/Writing.
 use Prim.Native.Nat.{ℕ, zero, suc, _+_, _-_, _*_, _/_, _%_, _^_, _≤_, _<_}
 use mathlib.Core.Path.{_≡_, refl, ap, sym, _∙_}
-use mathlib.Core.List.{List, [], _∷_, _++_}
+use mathlib.Core.List.{List, [], _∷_, _++_, append-assoc}
 use native.Mathlib.Nat.{mod-eq-of-lt, not-suc-le-zero, zero-add, add-zero, add-assoc}
 use native.Mathlib.Decide.{ℕ-discrete, decLt}
 use native.Mathlib.Omega.{arith}
@@ -202,3 +203,53 @@ packed-unique {fs} {s} p =
     same : (k : ℕ) → Dec (k < bitsIn fs) → bitAt s k ≡ getD (allBits fs) k 0
     same k (yes h) = rw (zero-add k) at (holds-bits (p .fields) k h)
     same k (no h) = p .fill k (omega arith) ∙ sym (all-fill fs k (omega arith))
+
+-- ---- fields that fill whole bytes
+
+pub bits-in-append : (fs gs : List Field) → bitsIn (fs ++ gs) ≡ bitsIn fs + bitsIn gs
+unfolding bitsIn
+bits-in-append [] gs = omega arith
+bits-in-append (f ∷ fs) gs = omega (arith, bits-in-append fs gs)
+
+all-append : (fs gs : List Field) → allBits (fs ++ gs) ≡ allBits fs ++ allBits gs
+unfolding allBits
+all-append [] gs = refl
+all-append (f ∷ fs) gs = rw (all-append fs gs) (sym (append-assoc (bitsOf (f .width) (f .value)) (allBits fs) (allBits gs)))
+
+-- the bits of one string, then those of another
+module _ (s t : List ℕ) where
+  bit-first : (k : ℕ) → k < 8 * length s → bitAt (s ++ t) k ≡ bitAt s k
+  unfolding bitAt
+  bit-first k l = rw (List·getD-append s t 0 (k / 8) (omega arith))
+
+  bit-second : (k : ℕ) → bitAt (s ++ t) (8 * length s + k) ≡ bitAt t k
+  unfolding bitAt
+  bit-second k =
+      let byte : (8 * length s + k) / 8 ≡ length s + k / 8 = omega arith in
+      let place : (8 * length s + k) % 8 ≡ k % 8 = omega arith in
+      rw (byte, place, getD-append-add s t (k / 8) 0)
+
+pub packed-append : (fs gs : List Field) (n : ℕ) → bitsIn fs ≡ 8 * n → packed (fs ++ gs) ≡ packed fs ++ packed gs
+packed-append fs gs n whole =
+    bits-determine (packed (fs ++ gs)) (packed fs ++ packed gs)
+    (omega (arith, length-packed (fs ++ gs), bits-in-append fs gs, length-append (packed fs) (packed gs), size, length-packed gs))
+    (packed-bytes (fs ++ gs))
+    (append-below 256 (packed fs) (packed gs) (packed-bytes fs) (packed-bytes gs))
+    (λ k l. packed-bit (fs ++ gs) k ∙ sym (same k (decLt k (8 * n))))
+  where
+    size : length (packed fs) ≡ n
+    size = omega (arith, length-packed fs)
+
+    same : (k : ℕ) → Dec (k < 8 * n) → bitAt (packed fs ++ packed gs) k ≡ getD (allBits (fs ++ gs)) k 0
+    same k (yes h) =
+        bit-first (packed fs) (packed gs) k (omega (arith, size))
+        ∙ packed-bit fs k
+        ∙ rw (all-append fs gs) (sym (List·getD-append (allBits fs) (allBits gs) 0 k (omega (arith, length-all fs))))
+    same k (no h) =
+        let there : k ≡ 8 * length (packed fs) + (k - 8 * n) = omega (arith, size) in
+        let after : bitsIn fs + (k - 8 * n) ≡ k = omega arith in
+        ap (bitAt (packed fs ++ packed gs)) there
+        ∙ bit-second (packed fs) (packed gs) (k - 8 * n)
+        ∙ packed-bit gs (k - 8 * n)
+        ∙ sym (all-after fs gs (k - 8 * n))
+        ∙ ap (λ (i : ℕ). getD (allBits (fs ++ gs)) i 0) after

@@ -1,5 +1,5 @@
--- Why placing keeps its promise: Area, then a file or two for each step, then the rank loop (Standing, Loop) and the end (Best);
--- and why unpacking does (Links, Starts, Unpacks).
+-- Why placing keeps its promise: Area, then a file or two for each step, then the rank loop (Standing, Loop) and the end (Best); why
+-- unpacking does (Links, Starts, Unpacks, Holding); and what is read off the finished plan (Tallies).
 pub mod Area
 pub mod Ready
 pub mod Waiting
@@ -18,3 +18,4 @@ pub mod Links
 pub mod Starts
 pub mod Unpacks
 pub mod Holding
+pub mod Tallies

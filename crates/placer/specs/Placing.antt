@@ -35,6 +35,10 @@ pub record PlacedFrom (z : Size) (v w : List ℕ) : Type 0 where
   pub mates : Mates z w
   pub placed : (rank : ℕ → ℕ → ℕ) → Ranks z rank v → Placed z rank w
 
+-- What tallying needs of a plan: every placed signal's pair has an entry. By Input it stands among the entries of its signal.
+pub record Placeable (z : Size) (w : List ℕ) : Type 0 where
+  pub listed : (s : ℕ) → s < z .signals → at w CHANNEL s < z .channels → Listed z w s (at w CHANNEL s)
+
 -- What tallying leaves of the area v, for every table whose ranks it lists and whose plan lies in it: the rank of each place,
 -- 0 where a signal has none, and the plan's counts.
 pub record Tallied (z : Size) (v w : List ℕ) : Type 0 where

@@ -9,7 +9,7 @@ use Rattle.plans.specs.Numbers.{same, under, sum}
 use Rattle.placer.specs.declared.Size.{Size}
 use Rattle.placer.specs.declared.Found.{Found}
 use Rattle.placer.specs.declared.Found.the-variants.{Free, Nothing}
-use Rattle.placer.specs.Work.{at, none, START, END, LIVE, CHANNEL, SIGNAL, SHUT-SIGNAL, SHUT-CHANNEL, FROM, QUEUE, FIRST, MIDDLE, SCRATCH, WHOLE, signalAt, channelAt, nextAt, rankAt, Same}
+use Rattle.placer.specs.Work.{at, none, START, END, LIVE, CHANNEL, SIGNAL, SHUT-SIGNAL, SHUT-CHANNEL, FROM, QUEUE, FIRST, MIDDLE, SCRATCH, WHOLE, RANK, COUNT, signalAt, channelAt, nextAt, rankAt, Same}
 
 -- What the table gives
 
@@ -319,3 +319,23 @@ pub record StruckChannels (n : ℕ) (v w : List ℕ) : Type 0 where
   pub as-it-was : (c : ℕ) → c < n → at v FROM c ≡ none → at w SHUT-CHANNEL c ≡ at v SHUT-CHANNEL c
   pub ahead-mark : (c : ℕ) → n ≤ c → at w FROM c ≡ at v FROM c
   pub ahead-flag : (c : ℕ) → n ≤ c → c < 200 → at w SHUT-CHANNEL c ≡ at v SHUT-CHANNEL c
+
+-- Tallying, part by part
+
+-- r is the rank of an entry that is the pair of signal s and channel c.
+pub record RankOf (z : Size) (w : List ℕ) (s c r : ℕ) : Type 0 where
+  pub listed : Listed z w s c
+  pub is : r ≡ rankAt w (listed .entry)
+
+-- The first n counts are 0, and nothing below the counts is changed.
+pub record Zeroed (n : ℕ) (v w : List ℕ) : Type 0 where
+  pub below : Same 0 COUNT w v
+  pub zero : (i : ℕ) → i < n → at w COUNT i ≡ 0
+
+-- The rank of signal s is recorded, 0 where it has no channel; the count of that rank, if it is one, went up by one.
+pub record TalliedOne (z : Size) (s : ℕ) (v w : List ℕ) : Type 0 where
+  pub below : Same 0 WHOLE w v
+  pub rank : at v CHANNEL s < z .channels → RankOf z v s (at v CHANNEL s) (at w RANK s)
+  pub unranked : at v CHANNEL s ≡ none → at w RANK s ≡ 0
+  pub others : (t : ℕ) → t < 200 → (t ≡ s → ⊥) → at w RANK t ≡ at v RANK t
+  pub counts : (i : ℕ) → i < z .ranks → at w COUNT i ≡ at v COUNT i + same (at w RANK s) (suc i)

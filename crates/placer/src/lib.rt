@@ -1,14 +1,15 @@
 // The placer: it finds a best plan of a table that lies unpacked in the work area, rank by rank, and keeps what shows it to be
 // best. specs/Work says how the area is laid out, specs/State what each step does to it, specs/Unpacking what unpacking promises
-// and specs/Placing what placing does.
+// and specs/Placing what placing and tallying do.
 mod entering;
 mod flipping;
 mod growing;
 mod preparing;
 mod searching;
 mod striking;
-pub mod unpacking;
-mod work;
+mod tallying;
+mod unpacking;
+pub mod work;
 
 ghost use Rattle.placer.specs.State.{Input};
 ghost use Rattle.placer.specs.Placing.{PlacedFrom};
@@ -16,6 +17,8 @@ use entering::enter;
 use growing::grow;
 use preparing::prepare;
 use striking::strike;
+pub use tallying::tally;
+pub use unpacking::unpack;
 
 // How many signals, channels, ranks and pairs a table has.
 pub struct Size {

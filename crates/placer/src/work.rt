@@ -1,4 +1,5 @@
 // The work area's regions, and the two functions that all access to it goes through. specs/Work says what each region holds.
+// What an answer is read from is open to other crates.
 ghost use mathlib.Core.Path.{_≡_};
 ghost use Prim.Native.Nat.{_+_, _<_};
 ghost use lib.ListN.{length};
@@ -16,7 +17,7 @@ pub(crate) const LIVE: usize = 6217;
 
 pub(crate) const END: usize = 9217;
 
-pub(crate) const CHANNEL: usize = 9417;
+pub const CHANNEL: usize = 9417;
 
 pub(crate) const SIGNAL: usize = 9617;
 
@@ -28,15 +29,15 @@ pub(crate) const FROM: usize = 10217;
 
 pub(crate) const QUEUE: usize = 10417;
 
-pub(crate) const RANK: usize = 10617;
+pub const RANK: usize = 10617;
 
-pub(crate) const COUNT: usize = 10817;
+pub const COUNT: usize = 10817;
 
 // No signal, or no channel.
 pub(crate) const NONE: usize = 255;
 
 // Number i of the region that starts at `off`.
-pub(crate) fn get(w: &[u16], off: usize, i: usize) -> usize
+pub fn get(w: &[u16], off: usize, i: usize) -> usize
     requires { ⌜ off + i < length (now w) ⌝ }
     ensures { λ r. ⌜ (r ≡ at (now (w .entry)) off i) × (r < 65536) ⌝ }
 {

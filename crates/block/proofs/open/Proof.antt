@@ -25,7 +25,7 @@ returns-2 c =
     let form = c .before .byte-at2 in
     sym
     (opening-undigited _ (sym (first .ensures .0) ∙ c .before .before .if1 .left)
-    (ap isDigit (sym (form .ensures .0)) ∙ digit-low (form .result) (c .if2 .taken)))
+    (ap isDigit (sym (form .ensures .0)) ∙ digit-low (form .result) (omega arith)))
 
 returns-3 : tie.Need-returns-3
 returns-3 c =
@@ -33,7 +33,7 @@ returns-3 c =
     let form = c .before .before .byte-at2 in
     sym
     (opening-undigited _ (sym (first .ensures .0) ∙ c .before .before .before .if1 .left)
-    (ap isDigit (sym (form .ensures .0)) ∙ digit-high (form .result) (c .if3 .taken)))
+    (ap isDigit (sym (form .ensures .0)) ∙ digit-high (form .result) (omega arith)))
 
 open-ended-requires : tie.Need-open-ended-requires
 open-ended-requires c κs =

@@ -27,13 +27,13 @@ returns : tie.Need-returns Inv-loop μ-loop
 returns c =
     let a = c .before .before .before .before .before .args in
     let i = c .before .before .before .loop .i in
-    sym (counted-spoilt (now (a .block)) (a .digits) i (c .before .before .loop-test .taken) (ap isDigit (sym (c .before .byte-at .ensures .0)) ∙ digit-low (c .before .byte-at .result) (c .if1 .taken)))
+    sym (counted-spoilt (now (a .block)) (a .digits) i (c .before .before .loop-test .taken) (ap isDigit (sym (c .before .byte-at .ensures .0)) ∙ digit-low (c .before .byte-at .result) (omega arith)))
 
 returns-2 : tie.Need-returns-2 Inv-loop μ-loop
 returns-2 c =
     let a = c .before .before .before .before .before .before .args in
     let i = c .before .before .before .before .loop .i in
-    sym (counted-spoilt (now (a .block)) (a .digits) i (c .before .before .before .loop-test .taken) (ap isDigit (sym (c .before .before .byte-at .ensures .0)) ∙ digit-high (c .before .before .byte-at .result) (c .if2 .taken)))
+    sym (counted-spoilt (now (a .block)) (a .digits) i (c .before .before .before .loop-test .taken) (ap isDigit (sym (c .before .before .byte-at .ensures .0)) ∙ digit-high (c .before .before .byte-at .result) (omega arith)))
 
 mul-count : tie.Need-mul-count Inv-loop μ-loop
 mul-count c = omega (arith, counting-fits (c .before .before .before .before .loop .inv) (omega arith) (omega arith))
@@ -48,7 +48,7 @@ loop-less : tie.Need-loop-less Inv-loop μ-loop
 loop-less c = omega arith
 
 loop-again : tie.Need-loop-again Inv-loop μ-loop
-loop-again c = counting-more (c .before .before .byte-at .result) (c .before .before .before .before .loop .inv) (c .before .before .before .loop-test .taken) (c .before .before .byte-at .ensures .0) (c .before .if1 .left) (c .if2 .left)
+loop-again c = counting-more (c .before .before .byte-at .result) _ (c .before .before .before .before .loop .inv) (omega arith) (c .before .before .byte-at .ensures .0) (omega arith) (omega arith) (omega arith)
 
 add-start : tie.Need-add-start Inv-loop μ-loop
 add-start c = omega arith
@@ -58,10 +58,10 @@ add-if3 c = omega (arith, counting-fits (c .before .loop .inv) (omega arith) (om
 
 returns-3 : tie.Need-returns-3 Inv-loop μ-loop
 unfolding from
-returns-3 c = sym (counted-ends _ _ (c .before .before .loop .inv) (c .before .loop-test .left) (c .if3 .taken))
+returns-3 c = sym (counted-ends _ _ (c .before .before .loop .inv) (omega arith) (omega arith))
 
 returns-4 : tie.Need-returns-4 Inv-loop μ-loop
-returns-4 c = sym (counted-wrong _ _ (c .before .before .loop .inv) (c .before .loop-test .left) (c .if3 .left))
+returns-4 c = sym (counted-wrong _ _ (c .before .before .loop .inv) (omega arith) (λ e. omega arith))
 
 pub open-counted-spec : {M : Type 1} → statement M
 open-counted-spec =

@@ -30,12 +30,13 @@ part-result-start c = search needs
 part-result-end : tie.Need-part-result-end
 part-result-end c =
     let o = c .before .before .before .«open» in
-    part (now (c .before .before .before .before .before .args .block)) (o .result) (o .ensures) (c .before .before .start .ensures) (c .before .length .ensures) .within
+    let p = part (now (c .before .before .before .before .before .args .block)) (o .result) (o .ensures) (c .before .before .start .ensures) (c .before .length .ensures) in
+    omega (arith, p .within)
 
 returns : tie.Need-returns
 returns c =
     let o = c .before .before .before .before .«open» in
-    part (now (c .before .before .before .before .before .before .args .block)) (o .result) (o .ensures) (c .before .before .before .start .ensures) (c .before .before .length .ensures) .bytes
+    part (now (c .before .before .before .before .before .before .args .block)) (o .result) (o .ensures) (c .before .before .before .start .ensures) (c .before .before .length .ensures) .bytes _ (omega arith)
 
 pub payload-spec : {M : Type 1} → statement M
 payload-spec =

@@ -30,13 +30,13 @@ loop-less : tie.Need-loop-less Inv-loop μ-loop
 loop-less c = omega arith
 
 loop-again : tie.Need-loop-again Inv-loop μ-loop
-loop-again c = writing-more (c .before .loop .inv) (omega arith) (c .loop-test .taken)
+loop-again c = writing-more _ _ _ (c .before .loop .inv) (omega arith) (omega arith) (omega arith) (omega arith)
 
 same-length : tie.Need-same-length Inv-loop μ-loop
 same-length c = c .before .loop .inv .size
 
 returns : tie.Need-returns Inv-loop μ-loop
-returns c = writing-done (c .before .loop .inv) (c .loop-test .left)
+returns c = writing-done (c .before .loop .inv) (omega arith)
 
 pub put-digits-spec : {M : Type 1} → statement M
 put-digits-spec =

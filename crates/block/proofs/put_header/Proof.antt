@@ -9,7 +9,7 @@ use Rattle.block.proofs.put_header.Statement.{statement}
 use Rattle.block.proofs.put_header.Tie as tie
 
 returns : tie.Need-returns
-returns c = head-too-long _ _ (c .if1 .taken)
+returns c = head-too-long _ _ (omega arith)
 
 width-requires : tie.Need-width-requires
 width-requires c κs = tt
@@ -18,7 +18,7 @@ add-if2 : tie.Need-add-if2
 add-if2 c = omega arith
 
 returns-2 : tie.Need-returns-2
-returns-2 c = head-no-room _ _ (c .before .width .ensures .0) (c .before .before .if1 .left) _ (c .if2 .taken)
+returns-2 c = head-no-room _ _ (c .before .width .ensures .0) (omega arith) _ (omega arith)
 
 slice-write-area : tie.Need-slice-write-area
 slice-write-area c = omega arith
@@ -52,7 +52,7 @@ same-length c = c .before .area .given .1 ∙ simp length-set
 
 returns-3 : tie.Need-returns-3
 returns-3 c =
-    head-written _ _ (c .before .before .before .before .before .width .ensures .0) (c .before .before .before .before .before .before .if1 .left) _ _ (c .before .before .before .before .if2 .left)
+    head-written _ _ (c .before .before .before .before .before .width .ensures .0) (omega arith) _ _ (omega arith)
     (c .before .before .put-digits .ensures)
 
 pub put-header-spec : {M : Type 1} → statement M

@@ -7,19 +7,25 @@ use Rattle.block.proofs.width.Tie as tie
 
 returns : tie.Need-returns
 unfolding widthOf
-returns c = (rw (lt-ltb _ 10 (c .if1 .taken)), omega arith)
+returns c = (rw (lt-ltb (c .before .args .n) 10 (omega arith)), omega arith)
 
 returns-2 : tie.Need-returns-2
 unfolding widthOf
-returns-2 c = (rw (le-ltb _ 10 (c .before .if1 .left), lt-ltb _ 100 (c .if2 .taken)), omega arith)
+returns-2 c =
+    let n = c .before .before .args .n in
+    (rw (le-ltb n 10 (omega arith), lt-ltb n 100 (omega arith)), omega arith)
 
 returns-3 : tie.Need-returns-3
 unfolding widthOf
-returns-3 c = (rw (le-ltb _ 10 (c .before .before .if1 .left), le-ltb _ 100 (c .before .if2 .left), lt-ltb _ 1000 (c .if3 .taken)), omega arith)
+returns-3 c =
+    let n = c .before .before .before .args .n in
+    (rw (le-ltb n 10 (omega arith), le-ltb n 100 (omega arith), lt-ltb n 1000 (omega arith)), omega arith)
 
 returns-4 : tie.Need-returns-4
 unfolding widthOf
-returns-4 c = (rw (le-ltb _ 10 (c .before .before .if1 .left), le-ltb _ 100 (c .before .if2 .left), le-ltb _ 1000 (c .if3 .left)), omega arith)
+returns-4 c =
+    let n = c .before .before .before .args .n in
+    (rw (le-ltb n 10 (omega arith), le-ltb n 100 (omega arith), le-ltb n 1000 (omega arith)), omega arith)
 
 pub width-spec : {M : Type 1} → statement M
 width-spec = tie.close (tie.spec returns returns-2 returns-3 returns-4)

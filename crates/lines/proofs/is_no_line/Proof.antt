@@ -14,7 +14,7 @@ abbrev μ-loop : tie.MeasureT-loop
 μ-loop line i₀ i = length line - i
 
 returns : tie.Need-returns Inv-loop μ-loop
-returns c = too-long _ (c .if1 .taken)
+returns c = too-long _ (omega arith)
 
 loop-holds : tie.Need-loop-holds Inv-loop μ-loop
 loop-holds c = (omega arith, below-none (λ j. getD (c .before .args .line .now) j 0 ≤ 200))
@@ -23,7 +23,7 @@ shared-slice-read-if2 : tie.Need-shared-slice-read-if2 Inv-loop μ-loop
 shared-slice-read-if2 c = omega arith
 
 returns-2 : tie.Need-returns-2 Inv-loop μ-loop
-returns-2 c = too-large _ _ (c .before .before .loop-test .taken) (c .if2 .taken)
+returns-2 c = too-large (c .before .before .before .before .before .args .line .now) (c .before .before .before .loop .i) (omega arith) (omega arith)
 
 add-i : tie.Need-add-i Inv-loop μ-loop
 add-i c = omega arith
@@ -32,10 +32,12 @@ loop-less : tie.Need-loop-less Inv-loop μ-loop
 loop-less c = omega arith
 
 loop-again : tie.Need-loop-again Inv-loop μ-loop
-loop-again c = (omega arith, below-more _ _ (c .before .before .before .loop .inv .1) (c .if2 .left))
+loop-again c =
+    let line = c .before .before .before .before .before .args .line .now in
+    (omega arith, below-more (λ j. getD line j 0 ≤ 200) (c .before .before .before .loop .i) (c .before .before .before .loop .inv .1) (omega arith))
 
 returns-3 : tie.Need-returns-3 Inv-loop μ-loop
-returns-3 c = a-line _ _ (c .before .before .if1 .left) (c .loop-test .left) (c .before .loop .inv .1)
+returns-3 c = a-line _ (c .before .loop .i) (omega arith) (omega arith) (c .before .loop .inv .1)
 
 pub is-no-line-spec : {M : Type 1} → statement M
 is-no-line-spec =

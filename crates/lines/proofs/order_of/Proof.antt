@@ -22,11 +22,11 @@ count-at-requires-2 c κs = tt
 
 returns : tie.Need-returns Inv-loop μ-loop
 returns c =
-    ordered-lesser (c .before .before .before .before .loop .inv) (c .before .before .before .loop-test .taken) _ _ (c .before .before .count-at .ensures) (c .before .count-at2 .ensures) (c .if1 .taken)
+    ordered-lesser (c .before .before .before .before .loop .inv) (omega arith) _ _ (c .before .before .count-at .ensures) (c .before .count-at2 .ensures) (omega arith)
 
 returns-2 : tie.Need-returns-2 Inv-loop μ-loop
 returns-2 c =
-    ordered-greater (c .before .before .before .before .before .loop .inv) (c .before .before .before .before .loop-test .taken) _ _ (c .before .before .before .count-at .ensures) (c .before .before .count-at2 .ensures) (c .if2 .taken)
+    ordered-greater (c .before .before .before .before .before .loop .inv) (omega arith) _ _ (c .before .before .before .count-at .ensures) (c .before .before .count-at2 .ensures) (omega arith)
 
 add-i : tie.Need-add-i Inv-loop μ-loop
 add-i c = omega arith
@@ -36,10 +36,10 @@ loop-less c = omega arith
 
 loop-again : tie.Need-loop-again Inv-loop μ-loop
 loop-again c =
-    agreeing-more (c .before .before .before .before .before .loop .inv) (c .before .before .before .before .loop-test .taken) _ _ (c .before .before .before .count-at .ensures) (c .before .before .count-at2 .ensures) (c .before .if1 .left) (c .if2 .left)
+    agreeing-more (c .before .before .before .before .before .loop .inv) (omega arith) _ _ (c .before .before .before .count-at .ensures) (c .before .before .count-at2 .ensures) (omega arith) (omega arith)
 
 returns-3 : tie.Need-returns-3 Inv-loop μ-loop
-returns-3 c = ordered-equal (c .before .loop .inv) (c .loop-test .left)
+returns-3 c = ordered-equal (c .before .loop .inv) (omega arith)
 
 pub order-of-spec : {M : Type 1} → statement M
 order-of-spec =

@@ -1,0 +1,7 @@
+-- Why the answer's bytes are those of the plan: the bytes of small groups of fields (Bytes), writing them one after the other
+-- (Splicing, Written), and what a tallied area says of its plan (Answered). Example is document 01's own.
+pub mod Bytes
+pub mod Splicing
+pub mod Written
+pub mod Answered
+pub mod Example
