@@ -32,6 +32,34 @@ headed {n} {r} {area} {after} w short fits =
     let size : r ≡ headerLength n = w .answer ∙ rw (le-ltb longest n short, le-ltb (length area) (headerLength n) fits) refl in
     record { size = size; bytes = w .bytes ∙ rw (lt-ltb 0 r (omega (arith, size)), size) refl }
 
+-- A header that counts the bytes of b is in place, and b goes into the part behind it: together they are the block of b.
+module _ (b area : List ℕ) {m r : ℕ} {after : List ℕ} (w : Heads m area r after) (counts : m ≡ length b) (short : length b ≤ longest)
+    (room : blockLength (length b) ≤ length area) where
+  head : Headed (length b) area r after
+  unfolding blockLength
+  head = headed (rw counts at w) short (omega arith)
+
+  pub header-within : r + length b ≤ length area
+  unfolding blockLength
+  header-within = omega (arith, head .size)
+
+  pub block-behind : (last : List ℕ) → last ≡ b ++ drop (length b) (midOf r (length after - r) after)
+      → putMid r (length after - r) after last ≡ blockOf b ++ drop (blockLength (length b)) area
+  unfolding blockOf blockLength
+  block-behind last e =
+      tail-back r after last
+      ∙ rw (before, e, tail-lent r after, behind, drop-drop (length b) (headerLength (length b)) area)
+      (sym (append-assoc (headerOf (length b)) b (drop (headerLength (length b) + length b) area)))
+    where
+      header-size : length (headerOf (length b)) ≡ r
+      header-size = length-header (length b) ∙ sym (head .size)
+
+      behind : drop r after ≡ drop (headerLength (length b)) area
+      behind = rw (head .bytes) (drop-at (headerOf (length b)) (drop (headerLength (length b)) area) r header-size)
+
+      before : take r after ≡ headerOf (length b)
+      before = rw (head .bytes) (take-at (headerOf (length b)) (drop (headerLength (length b)) area) r header-size)
+
 module _ (p area : List ℕ) where
   pub frame-too-long : longest < length p → Frames p area TooLong area
   unfolding framingOf areaAfter
@@ -47,37 +75,19 @@ module _ (p area : List ℕ) where
     frame-no-room h =
         record { answer = rw (le-ltb longest (length p) short, lt-ltb (length area) (blockLength (length p)) (omega (arith, whole))); bytes = refl }
 
-    -- the header of m bytes, which are the payload's, is in place, and the payload goes into the part behind it
     module _ (fits : 2 + k + length p ≤ length area) (m r : ℕ) (after : List ℕ) (w : Heads m area r after) (counts : m ≡ length p) where
-      room : headerLength (length p) + length p ≤ length area
-      unfolding blockLength
+      room : blockLength (length p) ≤ length area
       room = omega (arith, whole)
-
-      head : Headed (length p) area r after
-      head = headed (rw counts at w) short (omega (arith, room))
-
-      header-size : length (headerOf (length p)) ≡ r
-      header-size = length-header (length p) ∙ sym (head .size)
-
-      behind : drop r after ≡ drop (headerLength (length p)) area
-      behind = rw (head .bytes) (drop-at (headerOf (length p)) (drop (headerLength (length p)) area) r header-size)
-
-      before : take r after ≡ headerOf (length p)
-      before = rw (head .bytes) (take-at (headerOf (length p)) (drop (headerLength (length p)) area) r header-size)
 
       pub header-long : r ≡ 2 + k
       unfolding headerLength
-      header-long = head .size ∙ ap (λ (d : ℕ). 2 + d) (sym wide)
+      header-long = head p area w counts short room .size ∙ ap (λ (d : ℕ). 2 + d) (sym wide)
 
       pub frame-written : (last : List ℕ) → last ≡ take (length p) p ++ drop (length p) (midOf r (length after - r) after)
           → Frames p area (Framed (record { 0 = 2 + k + length p })) (putMid r (length after - r) after last)
-      unfolding framingOf areaAfter blockOf blockLength
+      unfolding framingOf areaAfter
       frame-written last e =
           record {
-            answer =
-                rw (le-ltb longest (length p) short, le-ltb (length area) (blockLength (length p)) (omega (arith, whole)), whole) refl;
-            bytes =
-                tail-back r after last
-                ∙ rw (before, e, take-length p, tail-lent r after, behind, drop-drop (length p) (headerLength (length p)) area, whole)
-                (sym (append-assoc (headerOf (length p)) p (drop (headerLength (length p) + length p) area)));
+            answer = rw (le-ltb longest (length p) short, le-ltb (length area) (blockLength (length p)) room, whole) refl;
+            bytes = block-behind p area w counts short room last (rw (take-length p) at e) ∙ rw whole refl;
           }

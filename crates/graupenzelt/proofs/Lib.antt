@@ -1,0 +1,5 @@
+-- Why a whole command is answered as it must be: the work area set to zero (Zeroed), a payload's table solved and its answer
+-- written (Solving), and the rows in their order (Deciding).
+pub mod Zeroed
+pub mod Solving
+pub mod Deciding
