@@ -10,7 +10,10 @@ use Rattle.block.specs.Opening.{openingOf, openingNumber, openingPlace, opening
 use Rattle.block.specs.Framing.{longest, blockLength, framedLength}
 use Rattle.table.specs.declared.Head.{Head}
 use Rattle.table.specs.declared.Checked.{Checked}
+use Rattle.table.specs.declared.Checked.the-variants.{Short, TooLarge, WrongLength, DirtyFill, NotInTable, NotAbove, Accepted}
+use Rattle.table.specs.Payload.{ranksIn}
 use Rattle.table.specs.Checking.{checkedOf, checkedNumber, checkedPlace, checkedHead, Sound, headIn}
+use Rattle.fields.proofs.Bits.{field-bound}
 use Rattle.table.proofs.Acceptance.{accepted-sound, sound-accepted}
 use Rattle.placer.specs.declared.Size.{Size}
 use Rattle.placer.specs.Unpacking.{SizeOf}
@@ -127,3 +130,28 @@ module _ (p : List ℕ) {f : Checked} {j : ℕ} (check : f ≡ checkedOf p) (jud
         ranks = n .2 ∙ ap (λ (h : Head). h .ranks) same;
         pairs = n .3 ∙ ap (λ (h : Head). h .pairs .0) same;
       }
+
+-- The numbers that checking yields are small: those of an accepted head, or zeros.
+pub record SmallHead (h : Head) : Type 0 where
+  pub signals : h .signals ≤ 200
+  pub channels : h .channels ≤ 200
+  pub ranks : h .ranks ≤ 15
+
+pub head-fits : (p : List ℕ) {f : Checked} {h : Head} → f ≡ checkedOf p → h ≡ checkedHead f → SmallHead h
+unfolding headIn ranksIn
+head-fits p {f} found head = rw head (small f found)
+  where
+    zeros : SmallHead (record { signals = 0; channels = 0; ranks = 0; pairs = record { 0 = 0 } })
+    zeros = record { signals = omega arith; channels = omega arith; ranks = omega arith }
+
+    small : (f : Checked) → f ≡ checkedOf p → SmallHead (checkedHead f)
+    small Short e = zeros
+    small TooLarge e = zeros
+    small WrongLength e = zeros
+    small DirtyFill e = zeros
+    small (NotInTable i) e = zeros
+    small (NotAbove i) e = zeros
+    small (Accepted h) e =
+        let sound = accepted-sound p (ap checkedNumber (sym e)) in
+        rw (ap checkedHead (e ∙ sound-accepted p sound))
+        (record { signals = sound .few-signals; channels = sound .few-channels; ranks = omega (arith, field-bound p 16 4) })

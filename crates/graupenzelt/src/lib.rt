@@ -7,6 +7,9 @@ ghost use Rattle.table.specs.Checking.{Sound};
 ghost use Rattle.placer.specs.Unpacking.{SizeOf};
 ghost use Rattle.answer.specs.Answer.{answerLength};
 ghost use Rattle.graupenzelt.specs.Handling.{Handles, Settles, Written, Solved, Numbers};
+
+mod exports;
+
 use block::framed_length;
 use block::open;
 use block::put_header;
@@ -17,7 +20,8 @@ use placer::unpack;
 use table::Head;
 use table::check;
 
-// What handling a command comes to: a refusal's number and place, or 0 and 0 and the length of the block written, in bytes.
+// What a step that writes a block comes to: a refusal's number and place, or 0 and 0 and the length of the block, in bytes.
+#[repr(C)]
 pub struct Reply {
     pub number: u32,
     pub place: usize,
