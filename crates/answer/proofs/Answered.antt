@@ -1,16 +1,15 @@
 -- What a tallied area says of its plan: the fields that are read off it are the answer's (answer-fields), and they fit
 -- (answerable); in the terms of a caller who placed and tallied, answered. Leans on placer's promises.
-use Prim.Native.Nat.{ℕ, suc, _≤_, _<_}
+use Prim.Native.Nat.{ℕ, _≤_, _<_}
 use mathlib.Core.Path.{_≡_, refl, ap}
 use mathlib.Core.List.{List}
-use native.Mathlib.Nat.{zero-mul, one-mul}
 use native.Mathlib.Decide.{ℕ-discrete}
 use native.Mathlib.Omega.{arith}
 use borrow.Author.Tests.{lt-ltb, le-ltb}
 use Rattle.fields.specs.Fields.{packed}
-use Rattle.plans.specs.Plan.{Plan, placed, line}
+use Rattle.plans.specs.Plan.{Plan, line}
 use Rattle.plans.specs.Tables.{pick}
-use Rattle.plans.proofs.Sums.{same-bit, by-under, sum-at-most}
+use Rattle.plans.proofs.Sums.{by-under}
 use Rattle.placer.specs.declared.Size.{Size}
 use Rattle.placer.specs.Work.{at, none, CHANNEL, RANK, COUNT}
 use Rattle.placer.specs.State.{Input, Mates}
@@ -20,6 +19,7 @@ use Rattle.placer.proofs.Standing.{same-ranks}
 use Rattle.answer.specs.Answer.{payloadFields, channelFor, rankFor, placeFor, answerFields, answerOf}
 use Rattle.answer.specs.Writing.{Answerable, placeIn, fieldsIn}
 use Rattle.answer.proofs.Bytes.{row-ext}
+use Rattle.answer.proofs.Reading.{line-most}
 
 -- v is the area with the plan, w the tallied one.
 module _ {z : Size} {rank : ℕ → ℕ → ℕ} {v w : List ℕ} (n : Input z v) (m : Mates z v) (R : Ranks z rank v)
@@ -51,15 +51,6 @@ module _ {z : Size} {rank : ℕ → ℕ → ℕ} {v w : List ℕ} (n : Input z v
       )
       refl
 
-  line-most : (i : ℕ) → line (tableWith z rank) (places v) i ≤ z .signals
-  unfolding line placed
-  line-most i =
-      sum-at-most _ (z .signals)
-      (λ s l.
-      by-under (at v CHANNEL s) (z .channels)
-      (λ h one. rw (one, one-mul) (same-bit (rank s (at v CHANNEL s)) (suc i)))
-      (λ h nought. rw (nought, zero-mul) (omega arith)))
-
   rank-most : (s : ℕ) → s < z .signals → at w RANK s < 16
   rank-most s l =
       by-under (at v CHANNEL s) (z .channels)
@@ -78,7 +69,7 @@ module _ {z : Size} {rank : ℕ → ℕ → ℕ} {v w : List ℕ} (n : Input z v
         room = omega (arith, T .below .size, n .room);
         few-signals = n .few-signals;
         few-ranks = n .few-ranks;
-        count = λ i l. omega (arith, T .counts rank R i l, line-most i, n .few-signals);
+        count = λ i l. omega (arith, T .counts rank R i l, line-most (tableWith z rank) (places v) i, n .few-signals);
         channel = channel-most;
         rank = rank-most;
       }
