@@ -8,7 +8,7 @@ use native.Mathlib.Omega.{arith}
 use borrow.Author.Count.{below-more}
 use Rattle.placer.specs.declared.Size.{Size}
 use Rattle.placer.specs.Work.{at, none, START, END, LIVE, CHANNEL, SHUT-SIGNAL, SHUT-CHANNEL, FROM, MIDDLE, Same, Put}
-use Rattle.placer.specs.State.{Input, InList, Lists, Mates, Covered, Struck, Spared, Untouched, Lessened, Thinned, StruckAt, StruckOne, StruckSignals, StruckChannels}
+use Rattle.placer.specs.State.{Input, InList, Lists, Mates, Covered, Struck, Spared, Untouched, Lessened, Thinned, StruckAt, StruckOne, StruckSignals, StruckChannels, Unmarked}
 use Rattle.placer.proofs.Area.{put-other, put-below, put-above, same-refl, same-trans, same-sym, same-part, same-at, same-start, same-listed, same-in-list, start-most, end-most, list-channel}
 
 -- What is spared and untouched
@@ -29,6 +29,22 @@ spared-trans p q =
 
 untouched-refl : (s : ℕ) (v : List ℕ) → Untouched s v v
 untouched-refl s v = record { flag = refl; end = refl; room = λ k l m. refl }
+
+-- Where no channel is marked a list is thinned as it stands,
+pub thinned-clear : {z : Size} {s : ℕ} {v : List ℕ} → Input z v → Lists z v → s < z .signals → Unmarked z v → Thinned z s v v
+thinned-clear {z} {s} {v} n l h clear =
+    record {
+      spared = spared-refl v;
+      others = λ t m d. untouched-refl t v;
+      less = record { shorter = omega arith; order = l .order s h; only = λ c i. i };
+      unmarked = λ c i. clear c (list-channel n l s c h i);
+      kept = λ c i q. i;
+      flag = refl;
+    }
+
+-- and so it stays while the signals are struck.
+pub clear-stays : (z : Size) {v w : List ℕ} → z .channels ≤ 200 → Spared v w → Unmarked z v → Unmarked z w
+clear-stays z few p clear c l = same-at (p .marks) FROM c (omega arith) (omega arith) ∙ clear c l
 
 -- The cover is read off the mates and the marks.
 covered-same : {z : Size} {s : ℕ} {v w : List ℕ} → Spared v w → s < 200 → z .channels ≤ 200 → Covered z v s → Covered z w s

@@ -282,6 +282,10 @@ pub record Lessened (s : ℕ) (v w : List ℕ) : Type 0 where
   pub order : at w START s ≤ at w END s
   pub only : (c : ℕ) → InList w s c → InList v s c
 
+-- No channel is marked.
+abbrev pub Unmarked : Size → List ℕ → Type 0
+Unmarked z w = (c : ℕ) → c < z .channels → at w FROM c ≡ none
+
 -- The list of signal s holds exactly the unmarked channels that it held, and no other signal is touched.
 pub record Thinned (z : Size) (s : ℕ) (v w : List ℕ) : Type 0 where
   pub spared : Spared v w

@@ -1,6 +1,8 @@
 // Striking: the cover that the failed searches of a rank leave is read off the marks.
+ghost use mathlib.Core.Path.{_≡_};
+ghost use mathlib.Core.Bool.{true};
 ghost use Prim.Native.Nat.{_<_};
-ghost use Rattle.placer.specs.State.{Input, Lists, Mates, Struck, StruckChannels, StruckOne, StruckSignals, Thinned};
+ghost use Rattle.placer.specs.State.{Input, Lists, Mates, Struck, StruckChannels, StruckOne, StruckSignals, Thinned, Unmarked};
 use crate::Size;
 use crate::work::CHANNEL;
 use crate::work::END;
@@ -19,34 +21,61 @@ pub(crate) fn strike(w: &mut [u16], size: Size)
     requires { ⌜ Input size (now w) × Lists size (now w) × Mates size (now w) ⌝ }
     ensures { λ _. ⌜ Struck size (now (w .entry)) (now (w .exit)) ⌝ }
 {
-    strike_signals(w, size);
+    let clear = is_clear(w, size);
+    strike_signals(w, size, clear);
     strike_channels(w, size);
 }
 
-fn strike_signals(w: &mut [u16], size: Size)
-    requires { ⌜ Input size (now w) × Lists size (now w) × Mates size (now w) ⌝ }
+// Whether no channel is marked. Then no list changes, and going through them can be spared.
+fn is_clear(w: &[u16], size: Size) -> bool
+    requires { ⌜ Input size (now w) ⌝ }
+    ensures { λ r. ⌜ (r ≡ true → Unmarked size (now (w .entry))) ⌝ }
+{
+    let channels = size.channels;
+    let mut c = 0;
+    while c < channels {
+        if get(w, FROM, c) != NONE {
+            return false;
+        }
+        c += 1;
+    }
+    true
+}
+
+fn strike_signals(w: &mut [u16], size: Size, clear: bool)
+    requires { ⌜ Input size (now w) × Lists size (now w) × Mates size (now w) × (clear ≡ true → Unmarked size (now w)) ⌝ }
     ensures { λ _. ⌜ StruckSignals size (size .signals) (now (w .entry)) (now (w .exit)) ⌝ }
 {
     let signals = size.signals;
     let mut s = 0;
     while s < signals {
-        strike_signal(w, size, s);
+        strike_signal(w, size, s, clear);
         s += 1;
     }
 }
 
 // One signal: where it sits on an unmarked channel its list is thinned and it is shut.
-fn strike_signal(w: &mut [u16], size: Size, s: usize)
-    requires { ⌜ Input size (now w) × Lists size (now w) × Mates size (now w) × (s < size .signals) ⌝ }
+fn strike_signal(w: &mut [u16], size: Size, s: usize, clear: bool)
+    requires { ⌜ Input size (now w) × Lists size (now w) × Mates size (now w) × (s < size .signals) × (clear ≡ true → Unmarked size (now w)) ⌝ }
     ensures { λ _. ⌜ StruckOne size s (now (w .entry)) (now (w .exit)) ⌝ }
 {
     let c = get(w, CHANNEL, s);
     if c < NONE {
         if get(w, FROM, c) == NONE {
-            thin(w, size, s);
+            thin_unless(clear, w, size, s);
             put(w, SHUT_SIGNAL, s, 1);
         }
     }
+}
+
+fn thin_unless(clear: bool, w: &mut [u16], size: Size, s: usize)
+    requires { ⌜ Input size (now w) × Lists size (now w) × (s < size .signals) × (clear ≡ true → Unmarked size (now w)) ⌝ }
+    ensures { λ _. ⌜ Thinned size s (now (w .entry)) (now (w .exit)) ⌝ }
+{
+    if clear {
+        return;
+    }
+    thin(w, size, s);
 }
 
 // Keeps of a signal's list the channels that are not marked.

@@ -13,8 +13,8 @@ get-requires-2 c κs =
     let n = c .before .before .before .before .before .pre in
     omega (arith, n .0 .room, n .0 .few-channels, one-channel (n .0) (n .1) (n .3) (n .2) (c .before .before .get .ensures .0) (c .before .if1 .taken))
 
-thin-requires : tie.Need-thin-requires
-thin-requires c κs = search needs
+thin-unless-requires : tie.Need-thin-unless-requires
+thin-unless-requires c κs = search needs
 
 put-requires : tie.Need-put-requires
 put-requires c κs = search needs
@@ -28,7 +28,7 @@ returns c =
     let sits = c .before .before .before .before .before .before .before .before .before .before .before .before .get .ensures .0 in
     let placed = c .before .before .before .before .before .before .before .before .before .before .before .if1 .taken in
     let read = c .before .before .before .before .before .before .before .before .before .get2 .ensures .0 in
-    one-covered (n .0) (n .1) (n .3) (n .2) sits placed read (c .before .before .before .before .before .before .before .before .if2 .taken) (c .before .before .before .before .before .before .thin .ensures) (c .before .before .put .ensures)
+    one-covered (n .0) (n .1) (n .3) (n .2) sits placed read (c .before .before .before .before .before .before .before .before .if2 .taken) (c .before .before .before .before .before .before .thin-unless .ensures) (c .before .before .put .ensures)
 
 same-length-2 : tie.Need-same-length-2
 same-length-2 c = search needs
@@ -51,7 +51,7 @@ strike-signal-spec =
     (tie.spec
     get-requires
     get-requires-2
-    thin-requires
+    thin-unless-requires
     put-requires
     same-length
     returns

@@ -4,15 +4,15 @@ use native.Mathlib.Nat.{le-antisymm}
 use Prim.Native.Nat.{_≤_, _-_}
 use Rattle.placer.specs.State.{StruckSignals}
 use Rattle.placer.proofs.Area.{same-input, same-mates}
-use Rattle.placer.proofs.Strikes.{signals-none, signals-lists, signals-more}
+use Rattle.placer.proofs.Strikes.{signals-none, signals-lists, signals-more, clear-stays}
 use Rattle.placer.proofs.striking.strike_signals.Statement.{statement}
 use Rattle.placer.proofs.striking.strike_signals.Tie as tie
 
 abbrev Inv-loop : tie.InvT-loop
-Inv-loop w₀ size signals s₀ w s = (s ≤ signals) × StruckSignals size s w₀ w
+Inv-loop w₀ size clear signals s₀ w s = (s ≤ signals) × StruckSignals size s w₀ w
 
 abbrev μ-loop : tie.MeasureT-loop
-μ-loop w₀ size signals s₀ w s = signals - s
+μ-loop w₀ size clear signals s₀ w s = signals - s
 
 loop-holds : tie.Need-loop-holds Inv-loop μ-loop
 loop-holds c = let n = c .before .pre in (omega arith, signals-none (n .0) (n .1))
@@ -21,7 +21,7 @@ strike-signal-requires : tie.Need-strike-signal-requires Inv-loop μ-loop
 strike-signal-requires c κs =
     let n = c .before .before .before .before .pre in
     let t = c .before .before .loop .inv .1 in
-    (same-input (t .spared .input) (n .0), signals-lists (n .0) (n .1) t, same-mates (n .0) (t .spared .mates) (n .2), c .before .loop-test .taken)
+    (same-input (t .spared .input) (n .0), signals-lists (n .0) (n .1) t, same-mates (n .0) (t .spared .mates) (n .2), c .before .loop-test .taken, λ e. clear-stays (c .before .before .before .before .args .size) (n .0 .few-channels) (t .spared) (n .3 e))
 
 add-s : tie.Need-add-s Inv-loop μ-loop
 add-s c = omega arith
