@@ -1,16 +1,19 @@
 -- The bytes that the answer's fields are packed into, group by group: head-bytes, two-bytes, last-bytes; rows of fields grow by such
--- groups (row-count, row-two, row-last); and how many bytes there are in all (length-payload, length-answer).
+-- groups (row-count, row-two, row-last); how many bytes there are in all (length-payload, length-answer); and that plans with one
+-- line have answers that agree up to the places (same-front).
 -- Leans on the laws of packing.
 use Prim.Native.Nat.{ℕ, zero, suc, _+_, _*_, _/_, _%_, _<_}
 use mathlib.Core.Path.{_≡_, refl, ap, sym, _∙_}
-use mathlib.Core.List.{[], _∷_, _++_, append-assoc}
+use mathlib.Core.List.{List, [], _∷_, _++_, append-assoc}
 use native.Mathlib.Nat.{mul-suc, mul-zero}
 use native.Mathlib.Omega.{arith}
-use lib.ListN.{length}
+use lib.ListN.{length, take, length-append}
+use lib.Seq.{take-at}
 use Rattle.fields.specs.Fields.{number, bitsOf, allBits, bitsIn, gathered, packed}
 use Rattle.fields.proofs.Packing.{bits-in-append, length-packed, packed-append}
-use Rattle.plans.specs.Plan.{Table, Places}
-use Rattle.answer.specs.Answer.{field, headFields, row, payloadFields, answerFields, answerOf, answerLength}
+use Rattle.plans.specs.Plan.{Table, Places, line}
+use Rattle.plans.specs.Order.{Same}
+use Rattle.answer.specs.Answer.{field, headFields, row, payloadFields, placeFor, answerFields, answerOf, answerLength}
 
 -- Groups of fields that fill whole bytes, or end with zero bits
 
@@ -107,3 +110,30 @@ module _ (S R : ℕ) (counts places : ℕ → ℕ) where
 pub length-answer : (T : Table) (p : Places) → length (answerOf T p) ≡ answerLength (T .signals) (T .ranks)
 unfolding answerOf answerFields
 length-answer T p = length-payload (T .signals) (T .ranks) _ _
+
+-- Before the places stand the head and the counts, which are the plan's line.
+
+answer-front : (T : Table) (p : Places)
+    → take (2 + T .ranks) (answerOf T p) ≡ packed (headFields (T .signals) (T .ranks)) ++ packed (row 8 (T .ranks) (line T p))
+unfolding answerOf answerFields bitsIn
+answer-front T p =
+    rw (payload-bytes (T .signals) (T .ranks) (line T p) (placeFor T p), ← append-assoc head counts places)
+    (take-at (head ++ counts) places (2 + T .ranks) size)
+  where
+    head : List ℕ
+    head = packed (headFields (T .signals) (T .ranks))
+
+    counts : List ℕ
+    counts = packed (row 8 (T .ranks) (line T p))
+
+    places : List ℕ
+    places = packed (row 12 (T .signals) (placeFor T p))
+
+    size : length (head ++ counts) ≡ 2 + T .ranks
+    size = omega (arith, length-append head counts, length-packed (headFields (T .signals) (T .ranks)), length-counts (line T p) (T .ranks))
+
+pub same-front : (T : Table) (p q : Places) → Same (T .ranks) (line T p) (line T q)
+    → take (2 + T .ranks) (answerOf T p) ≡ take (2 + T .ranks) (answerOf T q)
+unfolding Same
+same-front T p q same =
+    answer-front T p ∙ rw (row-ext 8 (line T p) (line T q) (T .ranks) same) (sym (answer-front T q))

@@ -1,5 +1,5 @@
 -- The three laws of best counts, of accepted payloads and the counts in their answers: cut-in-answers, beside-in-answers and
--- more-in-answers. What the box writes for a payload opens to such an answer (answered-payload), and its counts are the best
+-- more-in-answers. What the box writes opens to such an answer (answered-payload, handled-answer), and its counts are the best
 -- (counts-best). Leans on the round trip of blocks, on reading answers back, and on the laws of accepted payloads.
 use Prim.Native.Nat.{ℕ, _+_, _*_, _≤_}
 use mathlib.Core.Path.{_≡_, ap, sym, _∙_}
@@ -24,8 +24,10 @@ use Rattle.table.proofs.Making.{cut-accepted, beside-accepted, more-accepted}
 use Rattle.answer.specs.Answer.{answerOf, answerLength}
 use Rattle.answer.proofs.Bytes.{length-answer}
 use Rattle.answer.proofs.Reading.{count-read}
-use Rattle.graupenzelt.specs.Handling.{replyLength, Answered}
+use Rattle.graupenzelt.specs.declared.Reply.{Reply}
+use Rattle.graupenzelt.specs.Handling.{replyLength, Answered, Handles}
 use Rattle.graupenzelt.specs.Counts.{countIn, AnswerTo}
+use Rattle.graupenzelt.proofs.Tight.{answered-sound}
 
 -- What stands in the area after a command is answered opens to an answer.
 pub answered-payload : {p area work area′ work′ : List ℕ} {n : ℕ} → Sound p → Answered p area work n area′ work′
@@ -43,6 +45,13 @@ answered-payload {p} {area} {work} {area′} {work′} {n} sound done =
           ap payloadOf (ap (take n) (done .bytes) ∙ take-at (blockOf a) (drop n area) n size)
           ∙ framed-opens a short .1;
     }
+
+-- A whole command with number 0: its payload was accepted, and what it wrote opens to an answer.
+pub handled-answer : (block area work : List ℕ) (r : Reply) (a w : List ℕ) → Handles block area work r a w → r .number ≡ 0
+    → Sound (payloadOf block) × AnswerTo (payloadOf block) (payloadOf (take (r .length) a))
+handled-answer block area work r a w f e =
+    let sound : Sound (payloadOf block) = answered-sound block (length area) (length work) (sym (f .number) ∙ e) in
+    (sound, answered-payload sound (f .answered e))
 
 -- The counts in an answer are the best.
 pub counts-best : {p a : List ℕ} → Sound p → AnswerTo p a → Best (tableIn p) (countIn a)
