@@ -6,7 +6,7 @@
 #define MOST 131072
 #define GUARD 0xA5
 
-/* A request: eight numbers, then the first input, the second input (comparing), the area and the work area. */
+/* A request: five numbers, then the first input, the second input (comparing), the area and the work area. */
 struct request {
     uint64_t step; /* 'o', 'f', 'c', 'l' or 'h' */
     uint64_t in;   /* bytes */

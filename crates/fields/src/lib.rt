@@ -22,7 +22,7 @@ fn joined(a: u8, b: u8, c: u8, d: u8, e: u8) -> u64
 
 // The five bytes from i on as one number. All but the last few places of a string have five bytes left, and are read
 // without a test of each.
-fn five_bytes(s: &[u8], i: usize) -> u64
+pub fn five_bytes(s: &[u8], i: usize) -> u64
     requires { ⌜ i < 2 ^ 62 ⌝ }
     ensures { λ r. ⌜ r ≡ fieldAt (now (s .entry)) (8 * i) 40 ⌝ }
 {

@@ -32,6 +32,19 @@ module _ (p : List ℕ) (e : ℕ) {x : ℕ} (read : x ≡ fieldAt p (32 + 20 * e
   unfolding entryIn entryBit
   entry-rank = ap (λ (y : ℕ). y % 16) read ∙ field-right p (32 + 20 * e) 16 4
 
+-- Two entries are five bytes, the one with the even index first.
+module _ (p : List ℕ) (two : ℕ) {x : ℕ} (read : x ≡ fieldAt p (8 * (4 + 5 * two)) 40) where
+  both : x ≡ fieldAt p (32 + 20 * (2 * two)) 40
+  both = let bit : 8 * (4 + 5 * two) ≡ 32 + 20 * (2 * two) = omega arith in read ∙ ap (λ k. fieldAt p k 40) bit
+
+  pub even-entry : x / 1048576 ≡ fieldAt p (32 + 20 * (2 * two)) 20
+  even-entry = ap (λ (y : ℕ). y / 1048576) both ∙ field-left p (32 + 20 * (2 * two)) 20 20
+
+  pub odd-entry : x % 1048576 ≡ fieldAt p (32 + 20 * (2 * two + 1)) 20
+  odd-entry =
+      let bit : 32 + 20 * (2 * two) + 20 ≡ 32 + 20 * (2 * two + 1) = omega arith in
+      ap (λ (y : ℕ). y % 1048576) both ∙ field-right p (32 + 20 * (2 * two)) 20 20 ∙ ap (λ k. fieldAt p k 20) bit
+
 -- The first r ranks have no entry yet.
 pub record Unchaining (pairs r : ℕ) (v w : List ℕ) : Type 0 where
   pub size : length w ≡ length v
@@ -67,7 +80,10 @@ chained-none u =
       next-skips = λ e j l m k i h q. omega arith;
     }
 
--- One turn: entry n, with those behind it chained
+pub chained-at : {p : List ℕ} {pairs a b : ℕ} {w : List ℕ} → a ≡ b → Chained p pairs a w → Chained p pairs b w
+chained-at e c = rw e at c
+
+-- Entry n, with those behind it chained
 module _ {p : List ℕ} {pairs n e x next : ℕ} {w w₁ w₂ w₃ : List ℕ} (c : Chained p pairs e w) (few : pairs ≤ 3000) (down : suc n ≡ e)
     (more : e ≤ pairs) (read : x ≡ fieldAt p (32 + 20 * n) 20) (first : next ≡ at w FIRST (x % 16)) (pair : Put w PAIR n (x / 16) w₁)
     (link : Put w₁ LINK n (next * 16 + x % 16) w₂) (head : Put w₂ FIRST (x % 16) n w₃) where

@@ -1,6 +1,8 @@
 // A payload's table is unpacked into the work area: its entries, chained by rank, and where each signal's entries start.
-ghost use Prim.Native.Nat.{_≤_};
+ghost use mathlib.Core.Path.{_≡_};
+ghost use Prim.Native.Nat.{_+_, _*_, _/_, _≤_, _<_};
 ghost use lib.ListN.{length};
+ghost use Rattle.fields.specs.Fields.{fieldAt};
 ghost use Rattle.table.specs.Checking.{Sound};
 ghost use Rattle.placer.specs.Unpacking.{SizeOf, Unpacked, Unchained, Chained, Ordered, Passed, Started};
 use crate::Size;
@@ -10,6 +12,7 @@ use crate::work::PAIR;
 use crate::work::START;
 use crate::work::get;
 use crate::work::put;
+use fields::five_bytes;
 use fields::read;
 
 pub fn unpack(payload: &[u8], w: &mut [u16], size: Size)
@@ -33,21 +36,44 @@ fn unchain(w: &mut [u16], pairs: usize)
     }
 }
 
-// The entries, from the last to the first, each put before the chain of its rank.
+// The entries, from the last to the first, two by two: two entries are five whole bytes.
 fn chain(payload: &[u8], w: &mut [u16], pairs: usize)
     requires { ⌜ Unchained pairs (now w) × (pairs ≤ 3000) ⌝ }
     ensures { λ _. ⌜ Chained (now (payload .entry)) pairs 0 (now (w .exit)) ⌝ }
 {
-    let mut e = pairs;
-    while 0 < e {
-        e -= 1;
-        let entry = read(payload, 32 + 20 * e, 20) as usize;
-        let rank = entry % 16;
-        let next = get(w, FIRST, rank);
-        put(w, PAIR, e, entry / 16);
-        put(w, LINK, e, next * 16 + rank);
-        put(w, FIRST, rank, e);
+    chain_odd(payload, w, pairs);
+    let mut two = pairs / 2;
+    while 0 < two {
+        two -= 1;
+        let both = five_bytes(payload, 4 + 5 * two) as usize;
+        link(payload, w, pairs, 2 * two + 1, both % 1048576);
+        link(payload, w, pairs, 2 * two, both / 1048576);
     }
+}
+
+// The last entry by itself, where their number is odd.
+fn chain_odd(payload: &[u8], w: &mut [u16], pairs: usize)
+    requires { ⌜ Unchained pairs (now w) × (pairs ≤ 3000) ⌝ }
+    ensures { λ _. ⌜ Chained (now (payload .entry)) pairs (2 * (pairs / 2)) (now (w .exit)) ⌝ }
+{
+    if pairs % 2 == 0 {
+        return;
+    }
+    let last = pairs - 1;
+    let entry = read(payload, 32 + 20 * last, 20) as usize;
+    link(payload, w, pairs, last, entry);
+}
+
+// Entry e, whose 20 bits are at hand, is put before the chain of its rank.
+fn link(payload: &[u8], w: &mut [u16], pairs: usize, e: usize, entry: usize)
+    requires { ⌜ Chained (now payload) pairs (e + 1) (now w) × (e < pairs) × (pairs ≤ 3000) × (entry ≡ fieldAt (now payload) (32 + 20 * e) 20) ⌝ }
+    ensures { λ _. ⌜ Chained (now (payload .entry)) pairs e (now (w .exit)) ⌝ }
+{
+    let rank = entry % 16;
+    let next = get(w, FIRST, rank);
+    put(w, PAIR, e, entry / 16);
+    put(w, LINK, e, next * 16 + rank);
+    put(w, FIRST, rank, e);
 }
 
 // Each signal starts where the entries of the one before end.

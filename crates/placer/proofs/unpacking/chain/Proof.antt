@@ -1,74 +1,68 @@
--- `placer::unpacking::chain` meets its contract: the loop keeps Chained, by the laws of proofs/Links.
-use Prim.Native.Nat.{_%_, _≤_}
+-- `placer::unpacking::chain` meets its contract: the loop keeps that the entries from 2 · two on are chained.
+use Prim.Native.Nat.{_*_, _≤_}
 use native.Mathlib.Omega.{arith}
 use mathlib.Core.Path.{_≡_, refl, _∙_}
 use lib.ListN.{length}
 use Rattle.placer.specs.Unpacking.{Chained}
-use Rattle.placer.proofs.Links.{entry-small, chained-none, chained-more}
+use Rattle.placer.proofs.Links.{even-entry, odd-entry, chained-at}
 use Rattle.placer.proofs.unpacking.chain.Statement.{statement}
 use Rattle.placer.proofs.unpacking.chain.Tie as tie
 
 abbrev Inv-loop : tie.InvT-loop
-Inv-loop payload w₀ pairs e₀ w e = (length w ≡ length w₀) × (e ≤ pairs) × Chained payload pairs e w
+Inv-loop payload w₀ pairs two₀ w two = (length w ≡ length w₀) × (2 * two ≤ pairs) × Chained payload pairs (2 * two) w
 
 abbrev μ-loop : tie.MeasureT-loop
-μ-loop payload w₀ pairs e₀ w e = e
+μ-loop payload w₀ pairs two₀ w two = two
+
+chain-odd-requires : tie.Need-chain-odd-requires Inv-loop μ-loop
+chain-odd-requires c κs = c .before .before .before .pre
 
 loop-holds : tie.Need-loop-holds Inv-loop μ-loop
-loop-holds c = (refl, omega arith, chained-none (c .before .before .pre .0))
+loop-holds c = (refl, omega arith, c .before .before .chain-odd .ensures)
 
-sub-e : tie.Need-sub-e Inv-loop μ-loop
-sub-e c = omega arith
+sub-two : tie.Need-sub-two Inv-loop μ-loop
+sub-two c = omega arith
 
-mul-read : tie.Need-mul-read Inv-loop μ-loop
-mul-read c = omega arith
+mul-five-bytes : tie.Need-mul-five-bytes Inv-loop μ-loop
+mul-five-bytes c = omega arith
 
-add-read : tie.Need-add-read Inv-loop μ-loop
-add-read c = omega arith
+add-five-bytes : tie.Need-add-five-bytes Inv-loop μ-loop
+add-five-bytes c = omega arith
 
-read-requires : tie.Need-read-requires Inv-loop μ-loop
-read-requires c κs = omega arith
+five-bytes-requires : tie.Need-five-bytes-requires Inv-loop μ-loop
+five-bytes-requires c κs = omega arith
 
-cast-entry : tie.Need-cast-entry Inv-loop μ-loop
-cast-entry c = omega arith
+mul-link : tie.Need-mul-link Inv-loop μ-loop
+mul-link c = omega arith
 
-get-requires : tie.Need-get-requires Inv-loop μ-loop
-get-requires c κs = omega (arith, c .before .before .before .loop .inv .2 .room)
+add-link : tie.Need-add-link Inv-loop μ-loop
+add-link c = omega arith
 
-put-requires : tie.Need-put-requires Inv-loop μ-loop
-put-requires c κs = omega (arith, c .before .before .before .before .before .loop .inv .2 .room, entry-small _ _ (c .before .before .before .read .ensures))
+link-requires : tie.Need-link-requires Inv-loop μ-loop
+link-requires c κs =
+    let i = c .before .before .before .loop .inv in
+    (chained-at (omega arith) (i .2), omega arith, c .before .before .before .before .before .before .before .before .before .before .pre .1, odd-entry _ _ (c .before .five-bytes .ensures))
 
-mul-put : tie.Need-mul-put Inv-loop μ-loop
-mul-put c = omega arith
+mul-link-2 : tie.Need-mul-link-2 Inv-loop μ-loop
+mul-link-2 c = omega arith
 
-add-put : tie.Need-add-put Inv-loop μ-loop
-add-put c = omega arith
-
-put-requires-2 : tie.Need-put-requires-2 Inv-loop μ-loop
-put-requires-2 c κs = omega (arith, c .before .before .before .before .before .before .before .before .before .loop .inv .2 .first-most (c .before .before .before .before .before .before .before .read .result % 16) (omega arith), c .before .before .before .before .before .get .ensures .0)
-
-put-requires-3 : tie.Need-put-requires-3 Inv-loop μ-loop
-put-requires-3 c κs = omega arith
+link-requires-2 : tie.Need-link-requires-2 Inv-loop μ-loop
+link-requires-2 c κs =
+    (c .before .before .before .link .ensures, omega (arith, c .before .before .before .before .before .before .before .loop .inv .1), c .before .before .before .before .before .before .before .before .before .before .before .before .before .before .pre .1, even-entry _ _ (c .before .before .before .before .before .five-bytes .ensures))
 
 loop-less : tie.Need-loop-less Inv-loop μ-loop
 loop-less c = omega arith
 
 loop-again : tie.Need-loop-again Inv-loop μ-loop
 loop-again c =
-    let turn = c .before .before .before .before .before .before .before .before .before .before .before .before .before .before .before .before in
-    let put3 = c .before .before .put3 .ensures in
-    let put2 = c .before .before .before .before .before .before .put2 .ensures in
-    let put = c .before .before .before .before .before .before .before .before .before .before .put .ensures in (
-      put3 .size ∙ put2 .size ∙ put .size ∙ turn .loop .inv .0,
-      omega arith,
-      chained-more (turn .loop .inv .2) (c .before .before .before .before .before .before .before .before .before .before .before .before .before .before .before .before .before .before .before .pre .1) (omega arith) (turn .loop .inv .1) (c .before .before .before .before .before .before .before .before .before .before .before .before .before .before .read .ensures) (c .before .before .before .before .before .before .before .before .before .before .before .before .get .ensures .0) put put2 put3,
-    )
+    let i = c .before .before .before .before .before .before .before .before .before .before .loop .inv in
+    (c .before .before .link2 .kept .1 .0 ∙ c .before .before .before .before .before .before .link .kept .1 .0 ∙ i .0, omega arith, c .before .before .link2 .ensures)
 
 same-length : tie.Need-same-length Inv-loop μ-loop
-same-length c = c .before .loop .inv .0
+same-length c = c .before .loop .inv .0 ∙ c .before .before .before .before .chain-odd .kept .1 .0
 
 returns : tie.Need-returns Inv-loop μ-loop
-returns c = let done : c .before .loop .e ≡ 0 = omega arith in rw done at (c .before .loop .inv .2)
+returns c = chained-at (omega arith) (c .before .loop .inv .2)
 
 pub chain-spec : {M : Type 1} → statement M
 chain-spec =
@@ -76,18 +70,17 @@ chain-spec =
     (tie.spec
     Inv-loop
     μ-loop
+    chain-odd-requires
     loop-holds
-    sub-e
-    mul-read
-    add-read
-    read-requires
-    cast-entry
-    get-requires
-    put-requires
-    mul-put
-    add-put
-    put-requires-2
-    put-requires-3
+    sub-two
+    mul-five-bytes
+    add-five-bytes
+    five-bytes-requires
+    mul-link
+    add-link
+    link-requires
+    mul-link-2
+    link-requires-2
     loop-less
     loop-again
     same-length

@@ -1,0 +1,48 @@
+-- `placer::unpacking::chain_odd` meets its contract: the last entry is chained where their number is odd.
+use borrow.Author.Needs.{needs}
+use native.Mathlib.Omega.{arith}
+use Rattle.placer.proofs.Links.{chained-none, chained-at}
+use Rattle.placer.proofs.unpacking.chain_odd.Statement.{statement}
+use Rattle.placer.proofs.unpacking.chain_odd.Tie as tie
+
+returns : tie.Need-returns
+returns c = chained-at (omega arith) (chained-none (c .before .before .before .pre .0))
+
+sub-last : tie.Need-sub-last
+sub-last c = search needs
+
+mul-read : tie.Need-mul-read
+mul-read c = search needs
+
+add-read : tie.Need-add-read
+add-read c = search needs
+
+read-requires : tie.Need-read-requires
+read-requires c κs = search needs
+
+cast-entry : tie.Need-cast-entry
+cast-entry c = search needs
+
+link-requires : tie.Need-link-requires
+link-requires c κs =
+    let n = c .before .before .before .before .before .pre in (chained-at (omega arith) (chained-none (n .0)), omega arith, n .1, c .before .read .ensures)
+
+same-length : tie.Need-same-length
+same-length c = search needs
+
+returns-2 : tie.Need-returns-2
+returns-2 c = chained-at (omega arith) (c .before .before .link .ensures)
+
+pub chain-odd-spec : {M : Type 1} → statement M
+chain-odd-spec =
+    tie.close
+    (tie.spec
+    returns
+    sub-last
+    mul-read
+    add-read
+    read-requires
+    cast-entry
+    link-requires
+    same-length
+    returns-2)
