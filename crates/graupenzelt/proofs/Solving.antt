@@ -37,9 +37,9 @@ module _ {p : List ℕ} {z : Size} (sound : Sound p) (size : SizeOf p z) where
   unfolding ranksIn
   few-ranks = omega (arith, size .ranks, field-bound p 16 4)
 
-  module _ {u v : List ℕ} (U : Unpacked p z u) (P : PlacedFrom z u v) where
+  module _ {o u v : List ℕ} (U : Unpacked p z o u) (P : PlacedFrom z u v) where
     ranks : Ranks z (rankOf p) u
-    ranks = ranks-unpacked p sound z size u U
+    ranks = ranks-unpacked p sound z size U
 
     pub tallyable : Input z v × Mates z v × Placeable z v
     tallyable = (same-input (P .table) (U .input), P .mates, placeable-placed (U .input) ranks P)

@@ -1,5 +1,6 @@
 -- Laws of the work area: what a store does to its own place and to any other (Put, put-other), what agrees where two
--- areas are the Same, and what of the table and the lists is carried over by that. Leans on specs/Work and specs/State.
+-- areas are the Same, or are so but at some places (SameBut), and what of the table and the lists is carried over by that.
+-- Leans on specs/Work and specs/State.
 use Prim.Native.Nat.{ℕ, zero, suc, _+_, _-_, _/_, _%_, _≤_, _<_}
 use mathlib.Core.Path.{_≡_, refl, ap, sym, _∙_}
 use mathlib.Core.List.{List}
@@ -10,7 +11,7 @@ use lib.ListN.{length, set, length-set}
 use lib.Seq.{getD-set-same, getD-set-other}
 use Rattle.plans.proofs.Sums.{sum-ext}
 use Rattle.placer.specs.declared.Size.{Size}
-use Rattle.placer.specs.Work.{at, PAIR, LINK, FIRST, START, END, LIVE, CHANNEL, SIGNAL, SHUT-SIGNAL, MIDDLE, signalAt, channelAt, nextAt, rankAt, Same, Put}
+use Rattle.placer.specs.Work.{at, PAIR, LINK, FIRST, START, END, LIVE, CHANNEL, SIGNAL, SHUT-SIGNAL, MIDDLE, signalAt, channelAt, nextAt, rankAt, Same, SameBut, Put}
 use Rattle.placer.specs.State.{Input, Listed, InList, Lists, Mates, Along, waiting}
 
 -- Stores
@@ -54,6 +55,18 @@ same-part c d l m h = record { size = h .size; each = λ i k n. h .each i (omega
 pub same-at : {a b : ℕ} {v w : List ℕ} → Same a b v w → (off i : ℕ) → a ≤ off + i → off + i < b → at v off i ≡ at w off i
 unfolding at
 same-at h off i l m = h .each (off + i) l m
+
+-- Areas that are the same but at some places
+
+pub but-refl : {P : ℕ → Type 0} (w : List ℕ) → SameBut P w w
+but-refl w = record { size = refl; each = λ i h. refl }
+
+pub but-trans : {P : ℕ → Type 0} {u v w : List ℕ} → SameBut P u v → SameBut P v w → SameBut P u w
+but-trans h k = record { size = h .size ∙ k .size; each = λ i l. h .each i l ∙ k .each i l }
+
+-- a store at one of the places
+pub but-put : {P : ℕ → Type 0} {w v : List ℕ} {off i x : ℕ} → Put w off i x v → P (off + i) → SameBut P v w
+but-put p h = record { size = p .size; each = λ k other. p .others k (λ q. other (rw q h)) }
 
 -- The table's part, and the lists
 

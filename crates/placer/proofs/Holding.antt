@@ -30,8 +30,8 @@ module _ (p : List ℕ) (sound : Sound p) (z : Size) (size : SizeOf p z) where
         slots = λ c. 1;
       }
 
-  pub ranks-unpacked : (w : List ℕ) → Unpacked p z w → Ranks z (rankOf p) w
-  ranks-unpacked w u = record { given = given; listed = λ s c l m some most. listed s c (rank-listed p s c some) }
+  pub ranks-unpacked : {v w : List ℕ} → Unpacked p z v w → Ranks z (rankOf p) w
+  ranks-unpacked {w = w} u = record { given = given; listed = λ s c l m some most. listed s c (rank-listed p s c some) }
     where
       given : (e : ℕ) → e < z .pairs → rankOf p (signalAt w e) (channelAt w e) ≡ rankAt w e
       given e l = rw (u .signal e l, u .channel e l) (rank-in p sound e (omega (arith, size .pairs)) ∙ sym (u .rank e l))

@@ -1,4 +1,4 @@
--- Entering one pair: what each way through it leaves (pair-joined, pair-signal-shut, pair-channel-shut), and what that means
+-- Entering one pair: what each way through it leaves (pair-joined, pair-left-out), and what that means
 -- for the lists (Steps, by joined-steps and left-out-steps).
 -- Leans on proofs/Area, above all on rooms being apart: storing behind one list touches no other.
 use Prim.Native.Nat.{ℕ, suc, _+_, _/_, _%_, _≤_, _<_}
@@ -14,7 +14,7 @@ use Rattle.placer.specs.Work.{at, PAIR, START, END, LIVE, CHANNEL, SHUT-
 use Rattle.placer.specs.State.{Input, Listed, InList, Lists, Joined, LeftOut}
 use Rattle.placer.proofs.Area.{put-other, put-below, put-above, same-refl, same-trans, same-start, same-listed, end-most, rooms-apart}
 
--- The three ways through enter_pair, each of which has read the pair of entry e
+-- The two ways through enter_pair, each of which has read the pair of entry e
 
 module _ (v : List ℕ) (e : ℕ) {pair : ℕ} (read : pair ≡ at v PAIR e) where
   pair-signal : signalAt v e ≡ pair / 256
@@ -28,24 +28,22 @@ module _ (v : List ℕ) (e : ℕ) {pair : ℕ} (read : pair ≡ at v PAIR e) whe
   pub pair-end : {end : ℕ} → end ≡ at v END (pair / 256) → at v END (signalAt v e) < 3000 → end < 3000
   pair-end q room = omega (arith, ap (at v END) pair-signal)
 
-  pub pair-signal-shut : {x : ℕ} → x ≡ at v SHUT-SIGNAL (pair / 256) → (x ≡ 0 → ⊥) → LeftOut (signalAt v e) (channelAt v e) v v
-  pair-signal-shut q shut = rw (pair-signal, pair-channel) (record { shut = λ a b. shut (q ∙ a); same = refl })
-
-  pub pair-channel-shut : {x : ℕ} → x ≡ at v SHUT-CHANNEL (pair % 256) → (x ≡ 0 → ⊥) → LeftOut (signalAt v e) (channelAt v e) v v
-  pair-channel-shut q shut = rw (pair-signal, pair-channel) (record { shut = λ a b. shut (q ∙ b); same = refl })
+  pub pair-left-out : {x y : ℕ} → x ≡ at v SHUT-SIGNAL (pair / 256) → y ≡ at v SHUT-CHANNEL (pair % 256) → (x + y ≡ 0 → ⊥)
+      → LeftOut (signalAt v e) (channelAt v e) v v
+  pair-left-out p q shut = rw (pair-signal, pair-channel) (record { shut = λ a b. shut (omega (arith, p, q, a, b)); same = refl })
 
   pub pair-joined : {x y end : ℕ} {u w : List ℕ} → signalAt v e < 200 → at v END (signalAt v e) < 3000
-      → x ≡ at v SHUT-SIGNAL (pair / 256) → x ≡ 0 → y ≡ at v SHUT-CHANNEL (pair % 256) → y ≡ 0 → end ≡ at v END (pair / 256)
+      → x ≡ at v SHUT-SIGNAL (pair / 256) → y ≡ at v SHUT-CHANNEL (pair % 256) → x + y ≡ 0 → end ≡ at v END (pair / 256)
       → Put v LIVE end (pair % 256) u → Put u END (pair / 256) (end + 1) w → Joined (signalAt v e) (channelAt v e) v w
-  pair-joined {end = end} few room p a q b r live longer =
+  pair-joined {end = end} few room p q none-shut r live longer =
       let signal : pair / 256 < 200 = omega (arith, few, pair-signal) in
       let last : end < 3000 = pair-end r room in
       rw (pair-signal, pair-channel)
       (record {
         input = same-trans (put-below longer 0 MIDDLE (omega arith)) (put-below live 0 MIDDLE (omega arith));
         rest = same-trans (put-above longer CHANNEL WHOLE (omega arith)) (put-above live CHANNEL WHOLE (omega arith));
-        open-signal = sym p ∙ a;
-        open-channel = sym q ∙ b;
+        open-signal = omega (arith, p);
+        open-channel = omega (arith, q);
         longer = omega (arith, longer .here);
         last = rw (← r) (put-other longer LIVE end (λ k. omega arith) ∙ live .here);
         other-ends = λ t l h. put-other longer END t (λ k. h (omega arith)) ∙ put-other live END t (λ k. omega arith);

@@ -1,8 +1,8 @@
 -- Unpacking the entries: what a field of 20 bits says of an entry, that ranks start without a chain (unchained-more), and that
--- putting an entry before the chain of its rank keeps the chains (chained-none, chained-more). Leans on proofs/Area and the laws
--- of fields.
+-- putting an entry before the chain of its rank keeps the chains (chained-none, chained-more); both write the places of entries
+-- and ranks alone. Leans on proofs/Area and the laws of fields.
 use Prim.Native.Nat.{ℕ, suc, _+_, _*_, _/_, _%_, _≤_, _<_}
-use mathlib.Core.Path.{_≡_, refl, ap, sym, _∙_}
+use mathlib.Core.Path.{_≡_, ap, sym, _∙_}
 use mathlib.Core.List.{List}
 use native.Mathlib.Decide.{ℕ-discrete}
 use native.Mathlib.Omega.{arith}
@@ -11,9 +11,10 @@ use lib.ListN.{length}
 use Rattle.fields.specs.Fields.{fieldAt}
 use Rattle.fields.proofs.Bits.{field-bound, field-left, field-right}
 use Rattle.table.specs.Payload.{entryBit, entryIn}
-use Rattle.placer.specs.Work.{at, PAIR, LINK, FIRST, signalAt, channelAt, nextAt, rankAt, Put}
-use Rattle.placer.specs.Unpacking.{Unchained, Chained}
-use Rattle.placer.proofs.Area.{put-other}
+use Rattle.placer.specs.Work.{at, PAIR, LINK, FIRST, signalAt, channelAt, nextAt, rankAt, SameBut, Put}
+use Rattle.placer.specs.Unpacking.{Filled, Unchained, Chained}
+use Rattle.placer.specs.Unpacking.Filled.{pair-of, link-of, first-of}
+use Rattle.placer.proofs.Area.{put-other, but-refl, but-trans, but-put}
 
 -- The field of entry e, and its three parts
 module _ (p : List ℕ) (e : ℕ) {x : ℕ} (read : x ≡ fieldAt p (32 + 20 * e) 20) where
@@ -47,21 +48,21 @@ module _ (p : List ℕ) (two : ℕ) {x : ℕ} (read : x ≡ fieldAt p (8 * (4 + 
 
 -- The first r ranks have no entry yet.
 pub record Unchaining (pairs r : ℕ) (v w : List ℕ) : Type 0 where
-  pub size : length w ≡ length v
+  pub others : SameBut (Filled pairs 0) w v
   pub first : (i : ℕ) → i < r → at w FIRST i ≡ pairs
 
 pub unchained-none : (pairs : ℕ) (w : List ℕ) → Unchaining pairs 0 w w
-unchained-none pairs w = record { size = refl; first = λ i l. absurd (omega arith) }
+unchained-none pairs w = record { others = but-refl w; first = λ i l. absurd (omega arith) }
 
-pub unchained-more : {pairs r : ℕ} {v w x : List ℕ} → Unchaining pairs r v w → Put w FIRST r pairs x → Unchaining pairs (r + 1) v x
-unchained-more {pairs} {r} {x = x} u p =
+pub unchained-more : {pairs r : ℕ} {v w x : List ℕ} → Unchaining pairs r v w → Put w FIRST r pairs x → r < 16 → Unchaining pairs (r + 1) v x
+unchained-more {pairs} {r} {x = x} u p few =
     record {
-      size = p .size ∙ u .size;
+      others = but-trans (but-put p (first-of r few)) (u .others);
       first = below-more (λ i. at x FIRST i ≡ pairs) r (λ i l. put-other p FIRST i (λ e. omega arith) ∙ u .first i l) (p .here);
     }
 
-pub unchained-all : {pairs r : ℕ} {v w : List ℕ} → 16384 ≤ length v → Unchaining pairs r v w → 16 ≤ r → Unchained pairs w
-unchained-all l u m = record { room = omega (arith, u .size); first = λ i k. u .first i (omega arith) }
+pub unchained-all : {pairs r : ℕ} {v w : List ℕ} → 16384 ≤ length v → Unchaining pairs r v w → 16 ≤ r → Unchained pairs w × SameBut (Filled pairs 0) w v
+unchained-all l u m = (record { room = omega (arith, u .others .size); first = λ i k. u .first i (omega arith) }, u .others)
 
 -- No entry is chained yet.
 pub chained-none : {p : List ℕ} {pairs : ℕ} {w : List ℕ} → Unchained pairs w → Chained p pairs pairs w
@@ -156,8 +157,8 @@ module _ {p : List ℕ} {pairs n e x next : ℕ} {w w₁ w₂ w₃ : List ℕ} (
       pick (yes q) = rw q here
       pick (no q) = other r l q
 
-  pub chained-more : Chained p pairs n w₃
-  chained-more =
+  chained : Chained p pairs n w₃
+  chained =
       record {
         room = omega (arith, head .size, link .size, pair .size, c .room);
         signal = from-here (λ i. signalAt w₃ i ≡ entryIn p i .signal) signal-here signal-behind;
@@ -213,3 +214,10 @@ module _ {p : List ℕ} {pairs n e x next : ℕ} {w w₁ w₂ w₃ : List ℕ} (
           c .first-skips (x % 16) j small (omega arith) (omega (arith, next-here)) (sym (rank-behind j (omega arith) b) ∙ q ∙ rank-here))
           (λ i l m j k h b q.
           c .next-skips i j l m k (omega (arith, next-behind i l m)) b (sym (rank-behind j (omega arith) b) ∙ q ∙ rank-behind i l m))
+
+  -- the three places written are n's and its rank's
+  others : SameBut (Filled pairs 0) w₃ w
+  others = but-trans (but-put head (first-of (x % 16) small)) (but-trans (but-put link (link-of n (omega arith))) (but-put pair (pair-of n (omega arith))))
+
+  pub chained-more : Chained p pairs n w₃ × SameBut (Filled pairs 0) w₃ w
+  chained-more = (chained, others)

@@ -7,9 +7,10 @@ use native.Mathlib.Decide.{decLt, ℕ-discrete}
 use native.Mathlib.Omega.{arith}
 use borrow.Author.Count.{below-more}
 use Rattle.placer.specs.declared.Size.{Size}
-use Rattle.placer.specs.Work.{at, PAIR, START, signalAt, Same, Put}
-use Rattle.placer.specs.Unpacking.{Splits, Passed, Started}
-use Rattle.placer.proofs.Area.{put-other, put-below, same-refl, same-trans, same-at}
+use Rattle.placer.specs.Work.{at, PAIR, START, signalAt, Same, SameBut, Put}
+use Rattle.placer.specs.Unpacking.{Filled, Splits, Passed, Started}
+use Rattle.placer.specs.Unpacking.Filled.{pair-of, link-of, first-of, start-of}
+use Rattle.placer.proofs.Area.{put-other, put-below, same-refl, same-trans, same-at, but-refl, but-trans, but-put}
 
 -- Passing over the entries of signal s, from a up to b so far
 pub record Passing (pairs : ℕ) (w : List ℕ) (s a b : ℕ) : Type 0 where
@@ -43,9 +44,20 @@ module _ {pairs s a b : ℕ} {w : List ℕ} (t : Passing pairs w s a b) where
             pick (yes h) = rw h (signal-is ∙ q)
             pick (no h) = t .each e m (omega arith)
 
+-- Areas that are the same but for some starts are the same but for more.
+pub more-starts : {pairs a b : ℕ} {v w : List ℕ} → a ≤ b → SameBut (Filled pairs a) v w → SameBut (Filled pairs b) v w
+more-starts {pairs} {a} {b} l h = record { size = h .size; each = λ i other. h .each i (λ k. other (more k)) }
+  where
+    more : {i : ℕ} → Filled pairs a i → Filled pairs b i
+    more (pair-of e m) = pair-of e m
+    more (link-of e m) = link-of e m
+    more (first-of r m) = first-of r m
+    more (start-of s m) = start-of s (omega arith)
+
 -- The starts of the signals before s are put, and s starts at e.
 pub record Starting (pairs s e : ℕ) (v w : List ℕ) : Type 0 where
   pub below : Same 0 START w v
+  pub others : SameBut (Filled pairs s) w v
   pub starts : (t : ℕ) → t < s → Splits pairs v t (at w START t)
   pub here : Splits pairs v s e
 
@@ -53,13 +65,20 @@ pub starting-none : (pairs : ℕ) (w : List ℕ) → Starting pairs 0 0 w w
 starting-none pairs w =
     record {
       below = same-refl 0 START w;
+      others = but-refl w;
       starts = λ t l. absurd (omega arith);
       here = record { most = omega arith; before = λ e l. absurd (omega arith); behind = λ e l m. omega arith };
     }
 
+pub starting-at : {pairs a b e : ℕ} {v w : List ℕ} → a ≡ b → Starting pairs a e v w → Starting pairs b e v w
+starting-at q t = rw q at t
+
 module _ {pairs s e : ℕ} {v w x : List ℕ} (t : Starting pairs s e v w) (p : Put w START s e x) where
   same-table : Same 0 START x v
   same-table = same-trans (put-below p 0 START (omega arith)) (t .below)
+
+  others-to : SameBut (Filled pairs (s + 1)) x v
+  others-to = but-trans (but-put p (start-of s (omega arith))) (more-starts (omega arith) (t .others))
 
   starts-to : (i : ℕ) → i < s + 1 → Splits pairs v i (at x START i)
   starts-to =
@@ -87,7 +106,7 @@ module _ {pairs s e : ℕ} {v w x : List ℕ} (t : Starting pairs s e v w) (p : 
 
     pub starting-more : Starting pairs (s + 1) b v x
     starting-more =
-        record { below = same-table; starts = starts-to; here = record { most = q .most; before = before; behind = behind } }
+        record { below = same-table; others = others-to; starts = starts-to; here = record { most = q .most; before = before; behind = behind } }
 
 pub starting-done : {z : Size} {e : ℕ} {v w x : List ℕ} → Starting (z .pairs) (z .signals) e v w → Put w START (z .signals) e x → Started z v x
-starting-done t p = record { below = same-table t p; starts = λ s l. starts-to t p s (omega arith) }
+starting-done t p = record { below = same-table t p; others = others-to t p; starts = λ s l. starts-to t p s (omega arith) }

@@ -1,5 +1,5 @@
 -- Striking, put together: one law for each way through striking one signal (one-free, one-marked, one-covered) and through
--- the loops (signals-more, channels-open, channels-marked), and that both loops together have Struck. Leans on proofs/Area.
+-- the loops (signals-more, channels-more), and that both loops together have Struck. Leans on proofs/Area.
 use Prim.Native.Nat.{ℕ, suc, _+_, _≤_, _<_}
 use mathlib.Core.Path.{_≡_, refl, ap, sym, _∙_}
 use mathlib.Core.List.{List}
@@ -8,7 +8,7 @@ use native.Mathlib.Omega.{arith}
 use borrow.Author.Count.{below-more}
 use Rattle.placer.specs.declared.Size.{Size}
 use Rattle.placer.specs.Work.{at, none, START, END, LIVE, CHANNEL, SHUT-SIGNAL, SHUT-CHANNEL, FROM, MIDDLE, Same, Put}
-use Rattle.placer.specs.State.{Input, InList, Lists, Mates, Covered, Struck, Spared, Untouched, Lessened, Thinned, StruckAt, StruckOne, StruckSignals, StruckChannels, Unmarked}
+use Rattle.placer.specs.State.{Input, InList, Lists, Mates, Covered, FlagAfter, Struck, Spared, Untouched, Lessened, Thinned, StruckAt, StruckOne, StruckSignals, StruckChannels, Unmarked}
 use Rattle.placer.proofs.Area.{put-other, put-below, put-above, same-refl, same-trans, same-sym, same-part, same-at, same-start, same-listed, same-in-list, start-most, end-most, list-channel}
 
 -- What is spared and untouched
@@ -275,40 +275,36 @@ channels-none v =
       ahead-flag = λ c l m. refl;
     }
 
-module _ {v w : List ℕ} {n mark : ℕ} (t : StruckChannels n v w) (few : n < 200) (read : mark ≡ at w FROM n) where
-  old : mark ≡ at v FROM n
-  old = read ∙ t .ahead-mark n (omega arith)
+module _ {v w u x : List ℕ} {n mark flag after : ℕ} (t : StruckChannels n v w) (few : n < 200) (read : mark ≡ at w FROM n)
+    (read-flag : flag ≡ at w SHUT-CHANNEL n) (a : FlagAfter mark flag after) (p : Put w SHUT-CHANNEL n after u) (r : Put u FROM n none x) where
+  old-mark : mark ≡ at v FROM n
+  old-mark = read ∙ t .ahead-mark n (omega arith)
 
-  pub channels-open : mark ≡ none → StruckChannels (n + 1) v w
-  channels-open q =
-      record {
-        below = t .below;
-        cleared = below-more _ n (t .cleared) (sym read ∙ q);
-        shut = below-more _ n (t .shut) (λ m. absurd (omega (arith, old)));
-        as-it-was = below-more _ n (t .as-it-was) (λ m. t .ahead-flag n (omega arith) few);
-        ahead-mark = λ c l. t .ahead-mark c (omega arith);
-        ahead-flag = λ c l. t .ahead-flag c (omega arith);
-      }
+  old-flag : flag ≡ at v SHUT-CHANNEL n
+  old-flag = read-flag ∙ t .ahead-flag n (omega arith) few
 
-  pub channels-marked : {u x : List ℕ} → (mark ≡ none → ⊥) → Put w SHUT-CHANNEL n 1 u → Put u FROM n none x → StruckChannels (n + 1) v x
-  channels-marked {u} {x} q p r =
+  flag-at : (c : ℕ) → c < 200 → at x SHUT-CHANNEL c ≡ at u SHUT-CHANNEL c
+  flag-at c l = put-other r SHUT-CHANNEL c (λ e. omega arith)
+
+  flag-here : at x SHUT-CHANNEL n ≡ after
+  flag-here = flag-at n few ∙ p .here
+
+  flags : (c : ℕ) → c < 200 → (c ≡ n → ⊥) → at x SHUT-CHANNEL c ≡ at w SHUT-CHANNEL c
+  flags c l m = flag-at c l ∙ put-other p SHUT-CHANNEL c (λ e. m (omega arith))
+
+  marks : (c : ℕ) → (c ≡ n → ⊥) → at x FROM c ≡ at w FROM c
+  marks c m = put-other r FROM c (λ e. m (omega arith)) ∙ put-other p FROM c (λ e. omega arith)
+
+  pub channels-more : StruckChannels (n + 1) v x
+  channels-more =
       record {
         below = same-trans (put-below r 0 SHUT-CHANNEL (omega arith)) (same-trans (put-below p 0 SHUT-CHANNEL (omega arith)) (t .below));
         cleared = below-more _ n (λ c l. marks c (omega arith) ∙ t .cleared c l) (r .here);
-        shut = below-more _ n (λ c l m. flags c (omega arith) (omega arith) ∙ t .shut c l m) (λ m. flag n few ∙ p .here);
-        as-it-was = below-more _ n (λ c l m. flags c (omega arith) (omega arith) ∙ t .as-it-was c l m) (λ m. absurd (q (old ∙ m)));
+        shut = below-more _ n (λ c l m. flags c (omega arith) (omega arith) ∙ t .shut c l m) (λ m. flag-here ∙ a .marked (λ e. omega (arith, old-mark)));
+        as-it-was = below-more _ n (λ c l m. flags c (omega arith) (omega arith) ∙ t .as-it-was c l m) (λ m. flag-here ∙ a .unmarked (old-mark ∙ m) ∙ old-flag);
         ahead-mark = λ c l. marks c (omega arith) ∙ t .ahead-mark c (omega arith);
         ahead-flag = λ c l m. flags c m (omega arith) ∙ t .ahead-flag c (omega arith) m;
       }
-    where
-      flag : (c : ℕ) → c < 200 → at x SHUT-CHANNEL c ≡ at u SHUT-CHANNEL c
-      flag c l = put-other r SHUT-CHANNEL c (λ e. omega arith)
-
-      flags : (c : ℕ) → c < 200 → (c ≡ n → ⊥) → at x SHUT-CHANNEL c ≡ at w SHUT-CHANNEL c
-      flags c l m = flag c l ∙ put-other p SHUT-CHANNEL c (λ e. m (omega arith))
-
-      marks : (c : ℕ) → (c ≡ n → ⊥) → at x FROM c ≡ at w FROM c
-      marks c m = put-other r FROM c (λ e. m (omega arith)) ∙ put-other p FROM c (λ e. omega arith)
 
 -- First all signals, then all channels.
 module _ {z : Size} {v w x : List ℕ} (n : Input z v) (l : Lists z v) (t : StruckSignals z (z .signals) v w)

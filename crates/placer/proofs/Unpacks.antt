@@ -1,5 +1,5 @@
 -- The entries of a sound payload, chained and with the starts of their signals, are what unpacking promises: they are in order
--- (chained-ordered), and with their starts they are Unpacked (started-unpacked). Leans on proofs/Area.
+-- (chained-ordered), and with their starts they are Unpacked (started-unpacked). Leans on proofs/Area and proofs/Starts.
 use Prim.Native.Nat.{ℕ, zero, suc, _+_, _-_, _/_, _%_, _≤_, _<_}
 use mathlib.Core.Path.{_≡_, refl, ap, sym, _∙_}
 use mathlib.Core.List.{List}
@@ -11,10 +11,11 @@ use Rattle.table.specs.Payload.{ranksIn, pairsIn, entryIn}
 use Rattle.table.specs.Checking.{Above, Sound}
 use Rattle.table.specs.Checking.Above.{by-signal, by-channel}
 use Rattle.placer.specs.declared.Size.{Size}
-use Rattle.placer.specs.Work.{at, PAIR, LINK, FIRST, START, signalAt, channelAt, nextAt, rankAt}
+use Rattle.placer.specs.Work.{at, PAIR, LINK, FIRST, START, signalAt, channelAt, nextAt, rankAt, SameBut}
 use Rattle.placer.specs.State.{Input}
-use Rattle.placer.specs.Unpacking.{SizeOf, Unpacked, Chained, Ordered, Splits, Started}
-use Rattle.placer.proofs.Area.{same-at}
+use Rattle.placer.specs.Unpacking.{SizeOf, Filled, Unpacked, Chained, Ordered, Splits, Started}
+use Rattle.placer.proofs.Area.{same-at, but-trans}
+use Rattle.placer.proofs.Starts.{more-starts}
 
 -- Where a signal starts: later signals start later, an entry lies from its own signal's start on and before the next one's, and
 -- what no signal reaches starts behind them all.
@@ -149,5 +150,6 @@ module _ {p : List ℕ} {z : Size} {v : List ℕ} (sound : Sound p) (is : SizeOf
               c .next-skips e j (omega arith) l m (omega (arith, same-next e l)) h (sym (same-rank j h) ∙ q ∙ same-rank e l);
         }
 
-    pub started-unpacked : Unpacked p z w
-    started-unpacked = record { input = input; signal = signal; channel = channel; rank = rank }
+    pub started-unpacked : {u : List ℕ} → SameBut (Filled (z .pairs) 0) v u → Unpacked p z u w
+    started-unpacked h =
+        record { input = input; signal = signal; channel = channel; rank = rank; others = but-trans (s .others) (more-starts (omega arith) h) }

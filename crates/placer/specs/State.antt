@@ -315,6 +315,11 @@ pub record StruckSignals (z : Size) (n : ℕ) (v w : List ℕ) : Type 0 where
   pub done : (s : ℕ) → s < n → StruckAt z s v w
   pub ahead : (s : ℕ) → n ≤ s → s < z .signals → Untouched s v w
 
+-- What a channel's flag becomes, by its mark.
+pub record FlagAfter (mark flag r : ℕ) : Type 0 where
+  pub unmarked : mark ≡ none → r ≡ flag
+  pub marked : (mark ≡ none → ⊥) → r ≡ 1
+
 -- Of the first n channels the marked ones are shut and the marks gone, and nothing else is changed.
 pub record StruckChannels (n : ℕ) (v w : List ℕ) : Type 0 where
   pub below : Same 0 SHUT-CHANNEL w v

@@ -1,11 +1,11 @@
--- What unpacking promises: the area lists the entries of a payload, in range and chained by rank.
-use Prim.Native.Nat.{ℕ, _≤_, _<_}
+-- What unpacking promises: the area lists the entries of a payload, in range and chained by rank, and holds elsewhere what it held.
+use Prim.Native.Nat.{ℕ, _+_, _≤_, _<_}
 use mathlib.Core.Path.{_≡_}
 use mathlib.Core.List.{List}
 use lib.ListN.{length}
 use Rattle.table.specs.Payload.{signalsIn, channelsIn, ranksIn, pairsIn, entryIn}
 use Rattle.placer.specs.declared.Size.{Size}
-use Rattle.placer.specs.Work.{at, FIRST, START, signalAt, channelAt, nextAt, rankAt, Same}
+use Rattle.placer.specs.Work.{at, PAIR, LINK, FIRST, START, signalAt, channelAt, nextAt, rankAt, Same, SameBut}
 use Rattle.placer.specs.State.{Input}
 
 -- The numbers of a payload's head.
@@ -15,12 +15,20 @@ pub record SizeOf (p : List ℕ) (z : Size) : Type 0 where
   pub ranks : z .ranks ≡ ranksIn p
   pub pairs : z .pairs ≡ pairsIn p
 
--- The area holds the entries of payload p.
-pub record Unpacked (p : List ℕ) (z : Size) (w : List ℕ) : Type 0 where
+-- The places that unpacking writes: of each entry the pair and the link, of each rank the first entry, and so many starts.
+pub data Filled (pairs starts : ℕ) : ℕ → Type 0 where
+  pair-of : (e : ℕ) → e < pairs → Filled pairs starts (PAIR + e)
+  link-of : (e : ℕ) → e < pairs → Filled pairs starts (LINK + e)
+  first-of : (r : ℕ) → r < 16 → Filled pairs starts (FIRST + r)
+  start-of : (s : ℕ) → s < starts → Filled pairs starts (START + s)
+
+-- The area w holds the entries of payload p, and at every other place what v held.
+pub record Unpacked (p : List ℕ) (z : Size) (v w : List ℕ) : Type 0 where
   pub input : Input z w
   pub signal : (e : ℕ) → e < z .pairs → signalAt w e ≡ entryIn p e .signal
   pub channel : (e : ℕ) → e < z .pairs → channelAt w e ≡ entryIn p e .channel
   pub rank : (e : ℕ) → e < z .pairs → rankAt w e ≡ entryIn p e .rank
+  pub others : SameBut (Filled (z .pairs) (z .signals + 1)) w v
 
 -- Unpacking, part by part
 
@@ -64,7 +72,9 @@ pub record Passed (pairs : ℕ) (w : List ℕ) (s a b : ℕ) : Type 0 where
   pub each : (e : ℕ) → a ≤ e → e < b → signalAt w e ≡ s
   pub stop : b < pairs → signalAt w b ≡ s → ⊥
 
--- Each signal's start splits the entries at that signal, and so does the one start more, behind the last signal.
+-- Each signal's start splits the entries at that signal, and so does the one start more, behind the last signal; at every
+-- other place w holds what v held.
 pub record Started (z : Size) (v w : List ℕ) : Type 0 where
   pub below : Same 0 START w v
+  pub others : SameBut (Filled (z .pairs) (z .signals + 1)) w v
   pub starts : (s : ℕ) → s ≤ z .signals → Splits (z .pairs) v s (at w START s)

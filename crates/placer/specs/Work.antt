@@ -92,6 +92,11 @@ pub record Same (a b : ℕ) (w v : List ℕ) : Type 0 where
   pub size : length w ≡ length v
   pub each : (i : ℕ) → a ≤ i → i < b → getD w i 0 ≡ getD v i 0
 
+-- Two areas of the same length that hold the same numbers everywhere but at the places P.
+pub record SameBut (P : ℕ → Type 0) (w v : List ℕ) : Type 0 where
+  pub size : length w ≡ length v
+  pub each : (i : ℕ) → (P i → ⊥) → getD w i 0 ≡ getD v i 0
+
 -- v is w with x put at number i of the region that starts at `off`.
 pub record Put (w : List ℕ) (off i x : ℕ) (v : List ℕ) : Type 0 where
   pub size : length v ≡ length w

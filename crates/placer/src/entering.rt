@@ -30,7 +30,8 @@ pub(crate) fn enter(w: &mut [u16], size: Size, rank: usize) -> bool
     any
 }
 
-// A pair joins its signal's list, unless an end of it is shut. Says whether it, or any before it, did.
+// A pair joins its signal's list, unless an end of it is shut; one test of both flags, since neither can be foretold. Says
+// whether it, or any before it, did.
 fn enter_pair(w: &mut [u16], e: usize, any: bool) -> bool
     requires { ⌜ (16384 ≤ length (now w)) × (e < 3000) × (signalAt (now w) e < 200) × (at (now w) END (signalAt (now w) e) < 3000) ⌝ }
     ensures { λ r. ⌜ EnteredPair any r (signalAt (now (w .entry)) e) (channelAt (now (w .entry)) e) (now (w .entry)) (now (w .exit)) ⌝ }
@@ -38,13 +39,12 @@ fn enter_pair(w: &mut [u16], e: usize, any: bool) -> bool
     let pair = get(w, PAIR, e);
     let s = pair / 256;
     let c = pair % 256;
-    if get(w, SHUT_SIGNAL, s) == 0 {
-        if get(w, SHUT_CHANNEL, c) == 0 {
-            let end = get(w, END, s);
-            put(w, LIVE, end, c);
-            put(w, END, s, end + 1);
-            return true;
-        }
+    let shut = get(w, SHUT_SIGNAL, s) + get(w, SHUT_CHANNEL, c);
+    if shut == 0 {
+        let end = get(w, END, s);
+        put(w, LIVE, end, c);
+        put(w, END, s, end + 1);
+        return true;
     }
     any
 }

@@ -2,7 +2,7 @@
 ghost use mathlib.Core.Path.{_≡_};
 ghost use mathlib.Core.Bool.{true};
 ghost use Prim.Native.Nat.{_<_};
-ghost use Rattle.placer.specs.State.{Input, Lists, Mates, Struck, StruckChannels, StruckOne, StruckSignals, Thinned, Unmarked};
+ghost use Rattle.placer.specs.State.{Input, Lists, Mates, FlagAfter, Struck, StruckChannels, StruckOne, StruckSignals, Thinned, Unmarked};
 use crate::Size;
 use crate::work::CHANNEL;
 use crate::work::END;
@@ -97,7 +97,15 @@ fn thin(w: &mut [u16], size: Size, s: usize)
     put(w, END, s, kept);
 }
 
-// Every marked channel; what is not none is taken for a mark, so that none is left.
+// A channel's flag once it is struck; what is not none is taken for a mark.
+fn flag_after(mark: usize, flag: usize) -> usize
+    requires { ⌜ flag < 65536 ⌝ }
+    ensures { λ r. ⌜ FlagAfter mark flag r × (r < 65536) ⌝ }
+{
+    if mark == NONE { flag } else { 1 }
+}
+
+// Every channel, marked or not: with no test of the marks, which cannot be foretold, the compiler takes many channels at once.
 fn strike_channels(w: &mut [u16], size: Size)
     requires { ⌜ Input size (now w) ⌝ }
     ensures { λ _. ⌜ StruckChannels (size .channels) (now (w .entry)) (now (w .exit)) ⌝ }
@@ -105,10 +113,10 @@ fn strike_channels(w: &mut [u16], size: Size)
     let channels = size.channels;
     let mut c = 0;
     while c < channels {
-        if get(w, FROM, c) != NONE {
-            put(w, SHUT_CHANNEL, c, 1);
-            put(w, FROM, c, NONE);
-        }
+        let mark = get(w, FROM, c);
+        let flag = get(w, SHUT_CHANNEL, c);
+        put(w, SHUT_CHANNEL, c, flag_after(mark, flag));
+        put(w, FROM, c, NONE);
         c += 1;
     }
 }

@@ -4,7 +4,8 @@ ghost use Prim.Native.Nat.{_+_, _*_, _/_, _≤_, _<_};
 ghost use lib.ListN.{length};
 ghost use Rattle.fields.specs.Fields.{fieldAt};
 ghost use Rattle.table.specs.Checking.{Sound};
-ghost use Rattle.placer.specs.Unpacking.{SizeOf, Unpacked, Unchained, Chained, Ordered, Passed, Started};
+ghost use Rattle.placer.specs.Work.{SameBut};
+ghost use Rattle.placer.specs.Unpacking.{SizeOf, Filled, Unpacked, Unchained, Chained, Ordered, Passed, Started};
 use crate::Size;
 use crate::work::FIRST;
 use crate::work::LINK;
@@ -17,7 +18,7 @@ use fields::read;
 
 pub fn unpack(payload: &[u8], w: &mut [u16], size: Size)
     requires { ⌜ Sound (now payload) × SizeOf (now payload) size × (16384 ≤ length (now w)) ⌝ }
-    ensures { λ _. ⌜ Unpacked (now (payload .entry)) size (now (w .exit)) ⌝ }
+    ensures { λ _. ⌜ Unpacked (now (payload .entry)) size (now (w .entry)) (now (w .exit)) ⌝ }
 {
     unchain(w, size.pairs);
     chain(payload, w, size.pairs);
@@ -27,7 +28,7 @@ pub fn unpack(payload: &[u8], w: &mut [u16], size: Size)
 // Every rank's chain is empty.
 fn unchain(w: &mut [u16], pairs: usize)
     requires { ⌜ (16384 ≤ length (now w)) × (pairs ≤ 3000) ⌝ }
-    ensures { λ _. ⌜ Unchained pairs (now (w .exit)) ⌝ }
+    ensures { λ _. ⌜ Unchained pairs (now (w .exit)) × SameBut (Filled pairs 0) (now (w .exit)) (now (w .entry)) ⌝ }
 {
     let mut r = 0;
     while r < 16 {
@@ -39,7 +40,7 @@ fn unchain(w: &mut [u16], pairs: usize)
 // The entries, from the last to the first, two by two: two entries are five whole bytes.
 fn chain(payload: &[u8], w: &mut [u16], pairs: usize)
     requires { ⌜ Unchained pairs (now w) × (pairs ≤ 3000) ⌝ }
-    ensures { λ _. ⌜ Chained (now (payload .entry)) pairs 0 (now (w .exit)) ⌝ }
+    ensures { λ _. ⌜ Chained (now (payload .entry)) pairs 0 (now (w .exit)) × SameBut (Filled pairs 0) (now (w .exit)) (now (w .entry)) ⌝ }
 {
     chain_odd(payload, w, pairs);
     let mut two = pairs / 2;
@@ -54,7 +55,7 @@ fn chain(payload: &[u8], w: &mut [u16], pairs: usize)
 // The last entry by itself, where their number is odd.
 fn chain_odd(payload: &[u8], w: &mut [u16], pairs: usize)
     requires { ⌜ Unchained pairs (now w) × (pairs ≤ 3000) ⌝ }
-    ensures { λ _. ⌜ Chained (now (payload .entry)) pairs (2 * (pairs / 2)) (now (w .exit)) ⌝ }
+    ensures { λ _. ⌜ Chained (now (payload .entry)) pairs (2 * (pairs / 2)) (now (w .exit)) × SameBut (Filled pairs 0) (now (w .exit)) (now (w .entry)) ⌝ }
 {
     if pairs % 2 == 0 {
         return;
@@ -67,7 +68,7 @@ fn chain_odd(payload: &[u8], w: &mut [u16], pairs: usize)
 // Entry e, whose 20 bits are at hand, is put before the chain of its rank.
 fn link(payload: &[u8], w: &mut [u16], pairs: usize, e: usize, entry: usize)
     requires { ⌜ Chained (now payload) pairs (e + 1) (now w) × (e < pairs) × (pairs ≤ 3000) × (entry ≡ fieldAt (now payload) (32 + 20 * e) 20) ⌝ }
-    ensures { λ _. ⌜ Chained (now (payload .entry)) pairs e (now (w .exit)) ⌝ }
+    ensures { λ _. ⌜ Chained (now (payload .entry)) pairs e (now (w .exit)) × SameBut (Filled pairs 0) (now (w .exit)) (now (w .entry)) ⌝ }
 {
     let rank = entry % 16;
     let next = get(w, FIRST, rank);

@@ -1,34 +1,37 @@
--- `placer::striking::strike_channels` meets its contract: the loop keeps StruckChannels, by the laws of proofs/Strikes.
+-- `placer::striking::strike_channels` meets its contract: the loop keeps StruckChannels, by channels-more of proofs/Strikes.
+use borrow.Author.Needs.{needs}
 use native.Mathlib.Omega.{arith}
 use native.Mathlib.Nat.{le-antisymm}
-use mathlib.Core.Logic.{⊎-elim}
-use Prim.Native.Nat.{_≤_, _<_, _-_}
+use lib.ListN.{length}
+use Prim.Native.Nat.{_≤_, _-_}
 use Rattle.placer.specs.State.{StruckChannels}
-use Rattle.placer.proofs.Strikes.{channels-none, channels-open, channels-marked}
+use Rattle.placer.proofs.Strikes.{channels-none, channels-more}
 use Rattle.placer.proofs.striking.strike_channels.Statement.{statement}
 use Rattle.placer.proofs.striking.strike_channels.Tie as tie
 
 abbrev Inv-loop : tie.InvT-loop
-Inv-loop w₀ channels c₀ w c = (c ≤ channels) × StruckChannels c w₀ w
+Inv-loop w₀ channels c₀ w c = (c ≤ channels) × (channels ≤ 200) × (16384 ≤ length w) × StruckChannels c w₀ w
 
 abbrev μ-loop : tie.MeasureT-loop
 μ-loop w₀ channels c₀ w c = channels - c
 
 loop-holds : tie.Need-loop-holds Inv-loop μ-loop
-loop-holds c = (omega arith, channels-none _)
+loop-holds c = let n = c .before .pre in (omega arith, n .few-channels, n .room, channels-none _)
 
 get-requires : tie.Need-get-requires Inv-loop μ-loop
-get-requires c κs =
-    let n = c .before .before .before .before .pre in omega (arith, n .room, n .few-channels, c .before .before .loop .inv .1 .below .size)
+get-requires c κs = search needs
+
+get-requires-2 : tie.Need-get-requires-2 Inv-loop μ-loop
+get-requires-2 c κs = search needs
+
+flag-after-requires : tie.Need-flag-after-requires Inv-loop μ-loop
+flag-after-requires c κs = search needs
 
 put-requires : tie.Need-put-requires Inv-loop μ-loop
-put-requires c κs =
-    let n = c .before .before .before .before .before .before .before .pre in omega (arith, n .room, n .few-channels, c .before .before .before .before .before .loop .inv .1 .below .size)
+put-requires c κs = search needs
 
 put-requires-2 : tie.Need-put-requires-2 Inv-loop μ-loop
-put-requires-2 c κs =
-    let n = c .before .before .before .before .before .before .before .before .before .before .before .pre in
-    omega (arith, n .room, n .few-channels, c .before .before .before .before .before .before .before .before .before .loop .inv .1 .below .size, c .before .before .before .put .ensures .size)
+put-requires-2 c κs = search needs
 
 add-c : tie.Need-add-c Inv-loop μ-loop
 add-c c = omega arith
@@ -38,21 +41,25 @@ loop-less c = omega arith
 
 loop-again : tie.Need-loop-again Inv-loop μ-loop
 loop-again c =
-    let t = c .before .before .before .before .loop .inv .1 in
-    let few : c .before .before .before .before .loop .c < 200 = omega (arith, c .before .before .before .before .before .before .pre .few-channels, c .before .before .before .loop-test .taken) in
-    let read = c .before .get .ensures .0 in (
+    let inv = c .before .before .before .before .before .before .before .before .before .before .before .before .before .before .loop .inv in
+    let first = c .before .before .before .before .before .before .put .ensures in
+    let second = c .before .before .put2 .ensures in (
       omega arith,
-      ⊎-elim
-          (λ a. rw (a .9) (channels-marked t few read (a .0 .taken) (a .2 .ensures) (a .6 .ensures)))
-          (λ b. rw (b .1) (channels-open t few read (b .0 .left)))
-          (c .if1 .came),
+      inv .1,
+      omega (arith, inv .2, first .size, second .size),
+      channels-more (inv .3) (omega (arith, inv .1))
+          (c .before .before .before .before .before .before .before .before .before .before .before .get .ensures .0)
+          (c .before .before .before .before .before .before .before .before .before .get2 .ensures .0)
+          (c .before .before .before .before .before .before .before .flag-after .ensures .0)
+          first
+          second,
     )
 
 same-length : tie.Need-same-length Inv-loop μ-loop
-same-length c = c .before .loop .inv .1 .below .size
+same-length c = c .before .loop .inv .3 .below .size
 
 returns : tie.Need-returns Inv-loop μ-loop
-returns c = rw (le-antisymm (c .before .loop .inv .0) (c .loop-test .left)) at (c .before .loop .inv .1)
+returns c = rw (le-antisymm (c .before .loop .inv .0) (c .loop-test .left)) at (c .before .loop .inv .3)
 
 pub strike-channels-spec : {M : Type 1} → statement M
 strike-channels-spec =
@@ -62,6 +69,8 @@ strike-channels-spec =
     μ-loop
     loop-holds
     get-requires
+    get-requires-2
+    flag-after-requires
     put-requires
     put-requires-2
     add-c

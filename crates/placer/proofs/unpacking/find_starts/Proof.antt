@@ -1,9 +1,8 @@
 -- `placer::unpacking::find_starts` meets its contract: the loop keeps Starting, by the laws of proofs/Starts.
 use Prim.Native.Nat.{_≤_, _-_}
-use native.Mathlib.Nat.{le-antisymm}
 use native.Mathlib.Omega.{arith}
 use mathlib.Core.Path.{_∙_}
-use Rattle.placer.proofs.Starts.{Starting, starting-none, starting-more, starting-done}
+use Rattle.placer.proofs.Starts.{Starting, starting-none, starting-at, starting-more, starting-done}
 use Rattle.placer.proofs.unpacking.find_starts.Statement.{statement}
 use Rattle.placer.proofs.unpacking.find_starts.Tie as tie
 
@@ -11,7 +10,7 @@ abbrev Inv-loop : tie.InvT-loop
 Inv-loop w₀ signals pairs e₀ s₀ w e s = (s ≤ signals) × Starting pairs s e w₀ w
 
 abbrev μ-loop : tie.MeasureT-loop
-μ-loop w₀ signals pairs e₀ s₀ w e s = signals - s
+μ-loop w₀ signals pairs e₀ s₀ w e s = 200 - s
 
 loop-holds : tie.Need-loop-holds Inv-loop μ-loop
 loop-holds c = (omega arith, starting-none _ _)
@@ -40,7 +39,7 @@ same-length : tie.Need-same-length Inv-loop μ-loop
 same-length c = c .before .before .put2 .ensures .size ∙ c .before .before .before .before .before .loop .inv .1 .below .size
 
 returns : tie.Need-returns Inv-loop μ-loop
-returns c = starting-done (rw (le-antisymm (c .before .before .before .before .before .loop .inv .0) (c .before .before .before .before .loop-test .left)) at (c .before .before .before .before .before .loop .inv .1)) (c .before .before .put2 .ensures)
+returns c = starting-done (starting-at (omega arith) (c .before .before .before .before .before .loop .inv .1)) (c .before .before .put2 .ensures)
 
 pub find-starts-spec : {M : Type 1} → statement M
 find-starts-spec =
