@@ -1,6 +1,6 @@
--- Unpacking the entries: what a field of 20 bits says of an entry, that ranks start without a chain (unchained-more), and that
--- putting an entry before the chain of its rank keeps the chains (chained-none, chained-more); both write the places of entries
--- and ranks alone. Leans on proofs/Area and the laws of fields.
+-- Unpacking the entries: ranks start without a chain (unchained-more), and putting an entry before the chain of its rank keeps
+-- the chains (chained-none, chained-more); both write the places of entries and ranks alone. Leans on proofs/Area and on table's
+-- laws of an entry's 20 bits.
 use Prim.Native.Nat.{ℕ, suc, _+_, _*_, _/_, _%_, _≤_, _<_}
 use mathlib.Core.Path.{_≡_, ap, sym, _∙_}
 use mathlib.Core.List.{List}
@@ -9,42 +9,16 @@ use native.Mathlib.Omega.{arith}
 use borrow.Author.Count.{below-more}
 use lib.ListN.{length}
 use Rattle.fields.specs.Fields.{fieldAt}
-use Rattle.fields.proofs.Bits.{field-bound, field-left, field-right}
-use Rattle.table.specs.Payload.{entryBit, entryIn}
+use Rattle.fields.proofs.Bits.{field-bound}
+use Rattle.table.specs.Payload.{entryIn}
+use Rattle.table.proofs.Parts.{entry-parts}
 use Rattle.placer.specs.Work.{at, PAIR, LINK, FIRST, signalAt, channelAt, nextAt, rankAt, SameBut, Put}
 use Rattle.placer.specs.Unpacking.{Filled, Unchained, Chained}
 use Rattle.placer.specs.Unpacking.Filled.{pair-of, link-of, first-of}
 use Rattle.placer.proofs.Area.{put-other, but-refl, but-trans, but-put}
 
--- The field of entry e, and its three parts
-module _ (p : List ℕ) (e : ℕ) {x : ℕ} (read : x ≡ fieldAt p (32 + 20 * e) 20) where
-  pub entry-small : x < 1048576
-  entry-small = rw read (field-bound p (32 + 20 * e) 20)
-
-  entry-signal : x / 16 / 256 ≡ entryIn p e .signal
-  unfolding entryIn entryBit
-  entry-signal = ap (λ (y : ℕ). y / 16 / 256) read ∙ ap (λ (y : ℕ). y / 256) (field-left p (32 + 20 * e) 16 4) ∙ field-left p (32 + 20 * e) 8 8
-
-  entry-channel : x / 16 % 256 ≡ entryIn p e .channel
-  unfolding entryIn entryBit
-  entry-channel = ap (λ (y : ℕ). y / 16 % 256) read ∙ ap (λ (y : ℕ). y % 256) (field-left p (32 + 20 * e) 16 4) ∙ field-right p (32 + 20 * e) 8 8
-
-  entry-rank : x % 16 ≡ entryIn p e .rank
-  unfolding entryIn entryBit
-  entry-rank = ap (λ (y : ℕ). y % 16) read ∙ field-right p (32 + 20 * e) 16 4
-
--- Two entries are five bytes, the one with the even index first.
-module _ (p : List ℕ) (two : ℕ) {x : ℕ} (read : x ≡ fieldAt p (8 * (4 + 5 * two)) 40) where
-  both : x ≡ fieldAt p (32 + 20 * (2 * two)) 40
-  both = let bit : 8 * (4 + 5 * two) ≡ 32 + 20 * (2 * two) = omega arith in read ∙ ap (λ k. fieldAt p k 40) bit
-
-  pub even-entry : x / 1048576 ≡ fieldAt p (32 + 20 * (2 * two)) 20
-  even-entry = ap (λ (y : ℕ). y / 1048576) both ∙ field-left p (32 + 20 * (2 * two)) 20 20
-
-  pub odd-entry : x % 1048576 ≡ fieldAt p (32 + 20 * (2 * two + 1)) 20
-  odd-entry =
-      let bit : 32 + 20 * (2 * two) + 20 ≡ 32 + 20 * (2 * two + 1) = omega arith in
-      ap (λ (y : ℕ). y % 1048576) both ∙ field-right p (32 + 20 * (2 * two)) 20 20 ∙ ap (λ k. fieldAt p k 20) bit
+pub entry-small : (p : List ℕ) (e : ℕ) {x : ℕ} → x ≡ fieldAt p (32 + 20 * e) 20 → x < 1048576
+entry-small p e read = rw read (field-bound p (32 + 20 * e) 20)
 
 -- The first r ranks have no entry yet.
 pub record Unchaining (pairs r : ℕ) (v w : List ℕ) : Type 0 where
@@ -132,11 +106,11 @@ module _ {p : List ℕ} {pairs n e x next : ℕ} {w w₁ w₂ w₃ : List ℕ} (
 
   signal-here : signalAt w₃ n ≡ entryIn p n .signal
   unfolding signalAt
-  signal-here = ap (λ (y : ℕ). y / 256) pair-here ∙ entry-signal p n read
+  signal-here = ap (λ (y : ℕ). y / 256) pair-here ∙ entry-parts p n x read .signal
 
   channel-here : channelAt w₃ n ≡ entryIn p n .channel
   unfolding channelAt
-  channel-here = ap (λ (y : ℕ). y % 256) pair-here ∙ entry-channel p n read
+  channel-here = ap (λ (y : ℕ). y % 256) pair-here ∙ entry-parts p n x read .channel
 
   first-other : (r : ℕ) → r < 16 → (r ≡ x % 16 → ⊥) → at w₃ FIRST r ≡ at w FIRST r
   first-other r l q = put-other head FIRST r (λ k. q (omega arith)) ∙ put-other link FIRST r (λ k. omega arith) ∙ put-other pair FIRST r (λ k. omega arith)
@@ -164,7 +138,7 @@ module _ {p : List ℕ} {pairs n e x next : ℕ} {w w₁ w₂ w₃ : List ℕ} (
         signal = from-here (λ i. signalAt w₃ i ≡ entryIn p i .signal) signal-here signal-behind;
         channel = from-here (λ i. channelAt w₃ i ≡ entryIn p i .channel) channel-here channel-behind;
         rank =
-            from-here (λ i. rankAt w₃ i ≡ entryIn p i .rank) (rank-here ∙ entry-rank p n read)
+            from-here (λ i. rankAt w₃ i ≡ entryIn p i .rank) (rank-here ∙ entry-parts p n x read .rank)
             (λ i l m. rank-behind i l m ∙ c .rank i l m);
         first-from =
             each-rank (λ r. n ≤ at w₃ FIRST r) (omega (arith, head .here))

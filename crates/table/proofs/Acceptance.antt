@@ -4,6 +4,7 @@ use Prim.Native.Nat.{ℕ, zero, suc, _≤_, _<_}
 use mathlib.Core.Path.{_≡_, refl, sym, _∙_}
 use mathlib.Core.Bool.{Bool, true, false, cond, _||_, false≢true}
 use mathlib.Core.List.{List}
+use mathlib.Core.Logic.{_⊎_, inl, inr, ⊎-elim}
 use native.Mathlib.Nat.{not-suc-le-zero}
 use native.Mathlib.Decide.{ℕ-discrete}
 use native.Mathlib.Omega.{arith}
@@ -33,27 +34,37 @@ neither : (a b : Bool) → (a || b) ≡ false → (a ≡ false) × (b ≡ false)
 neither true b e = absurd (false≢true (sym e))
 neither false b e = (refl, e)
 
-went-on : (r next : Checked) → checkedNumber (goOn r next) ≡ 0 → (checkedNumber r ≡ 0) × (checkedNumber next ≡ 0)
+-- A refusal stands, and what is accepted is judged on.
+pub gone-on : (r next : Checked) → ((1 ≤ checkedNumber r) × (goOn r next ≡ r)) ⊎ ((checkedNumber r ≡ 0) × (goOn r next ≡ next))
 unfolding goOn
-went-on Short next e = absurd (omega arith)
-went-on TooLarge next e = absurd (omega arith)
-went-on WrongLength next e = absurd (omega arith)
-went-on DirtyFill next e = absurd (omega arith)
-went-on (NotInTable i) next e = absurd (omega arith)
-went-on (NotAbove i) next e = absurd (omega arith)
-went-on (Accepted h) next e = (refl, e)
+gone-on Short next = inl (omega arith, refl)
+gone-on TooLarge next = inl (omega arith, refl)
+gone-on WrongLength next = inl (omega arith, refl)
+gone-on DirtyFill next = inl (omega arith, refl)
+gone-on (NotInTable i) next = inl (omega arith, refl)
+gone-on (NotAbove i) next = inl (omega arith, refl)
+gone-on (Accepted h) next = inr (refl, refl)
+
+went-on : (r next : Checked) → checkedNumber (goOn r next) ≡ 0 → (checkedNumber r ≡ 0) × (checkedNumber next ≡ 0)
+went-on r next e =
+    ⊎-elim (λ refused. absurd (omega (arith, rw (refused .1) at e))) (λ passed. (passed .0, rw (passed .1) at e)) (gone-on r next)
 
 -- Neither row 8 nor row 9 applies to entry i.
 record Passed (p : List ℕ) (i : ℕ) : Type 0 where
   in-table : InTable p i
   no-sink : sinks p i ≡ false
 
-passed-alone : (p : List ℕ) (i : ℕ) → checkedNumber (judgedAlone p i) ≡ 0 → (t u : Bool) → strays p i ≡ t → sinks p i ≡ u → Passed p i
-unfolding judgedAlone
-passed-alone p i e false false row-8 row-9 = record { in-table = passed-in-table p i row-8; no-sink = row-9 }
-passed-alone p i e false true row-8 row-9 = absurd (omega (arith, simp (row-8, row-9) at e))
-passed-alone p i e true false row-8 row-9 = absurd (omega (arith, simp (row-8, row-9) at e))
-passed-alone p i e true true row-8 row-9 = absurd (omega (arith, simp (row-8, row-9) at e))
+module _ (p : List ℕ) (i : ℕ) (e : checkedNumber (judgedAlone p i) ≡ 0) where
+  passed-alone : Passed p i
+  unfolding judgedAlone
+  passed-alone =
+      let row-8 = passed-by (strays p i) (NotInTable i) _ (λ z. omega arith) e in
+      let row-9 = passed-by (sinks p i) (NotAbove i) _ (λ z. omega arith) (row-8 .1) in
+      record { in-table = passed-in-table p i (row-8 .0); no-sink = row-9 .0 }
+
+  pub accepted-alone : judgedAlone p i ≡ Accepted (headIn p)
+  unfolding judgedAlone
+  accepted-alone = rw (in-table-passes p i (passed-alone .in-table), passed-alone .no-sink)
 
 passed-all : (p : List ℕ) (n : ℕ) → checkedNumber (judged p n) ≡ 0 → (i : ℕ) → i < n → Passed p i
 unfolding judged
@@ -61,7 +72,7 @@ passed-all p zero e i l = absurd (not-suc-le-zero l)
 passed-all p (suc n) e i l = pick (ℕ-discrete i n) (passed-all p n (went-on (judged p n) (judgedAlone p n) e .0) i)
   where
     pick : Dec (i ≡ n) → (i < n → Passed p i) → Passed p i
-    pick (yes last) earlier = rw last (passed-alone p n (went-on (judged p n) (judgedAlone p n) e .1) (strays p n) (sinks p n) refl refl)
+    pick (yes last) earlier = rw last (passed-alone p n (went-on (judged p n) (judgedAlone p n) e .1))
     pick (no before) earlier = earlier (omega arith)
 
 -- A sound table's entries pass.

@@ -1,46 +1,25 @@
--- Judging the entries one by one: what the loop keeps (Judging), and one law for each way through its body. Leans on
--- proofs/Parts for what the tests of one entry mean.
+-- Judging the entries: one law for each way through judging one entry alone, then what the loop keeps (Judging) and the laws that
+-- carry it on (judging-more) and end it (judging-stop, judging-last, judging-done). Leans on proofs/Parts for what the tests of
+-- one entry mean, and on proofs/Acceptance for what an answer 0 says of it.
 use Prim.Native.Nat.{ℕ, zero, suc, _+_, _*_, _/_, _%_, _≤_, _<_}
 use mathlib.Core.Path.{_≡_, refl, ap, sym, _∙_}
 use mathlib.Core.Bool.{true, false}
 use mathlib.Core.List.{List}
-use native.Mathlib.Nat.{le-antisymm}
+use mathlib.Core.Logic.{⊎-elim}
 use native.Mathlib.Decide.{ℕ-discrete}
 use native.Mathlib.Numerals.{add-one}
 use native.Mathlib.Omega.{arith}
 use Rattle.fields.specs.Fields.{fieldAt}
+use Rattle.fields.proofs.Bits.{field-bound}
 use Rattle.table.specs.declared.Head.{Head}
 use Rattle.table.specs.declared.Checked.{Checked}
 use Rattle.table.specs.declared.Checked.the-variants.{NotInTable, NotAbove, Accepted}
-use Rattle.table.specs.Payload.{pairsIn, entryIn}
-use Rattle.table.specs.Checking.{headIn, strays, sinks, judgedAlone, goOn, judged}
-use Rattle.table.proofs.Parts.{InTable, in-table-passes, strays-signal, strays-channel, strays-no-rank, strays-rank, channel-byte, keyOf, above-passes, keys-ascend, keys-sink, EntryParts, entry-parts}
+use Rattle.table.specs.Payload.{ranksIn, pairsIn, entryIn}
+use Rattle.table.specs.Checking.{headIn, strays, sinks, judgedAlone, keyOf, floorAt, goOn, judged, checkedNumber}
+use Rattle.table.proofs.Parts.{InTable, in-table-passes, strays-signal, strays-channel, strays-no-rank, strays-rank, channel-byte, above-passes, keys-ascend, keys-sink, head-pairs, EntryParts, entry-parts}
+use Rattle.table.proofs.Acceptance.{gone-on, accepted-alone}
 
--- A refusal of the first i entries is what any more of them come to.
-refused-stands : (p : List ℕ) (i n : ℕ) (r : Checked) → ((next : Checked) → goOn r next ≡ r) → judged p i ≡ r → i ≤ n
-    → judged p n ≡ r
-unfolding judged
-refused-stands p i zero r stands e l = let first : i ≡ 0 = omega arith in rw first at e
-refused-stands p i (suc n) r stands e l = pick (ℕ-discrete i (suc n)) (refused-stands p i n r stands e)
-  where
-    pick : Dec (i ≡ suc n) → (i ≤ n → judged p n ≡ r) → goOn (judged p n) (judgedAlone p n) ≡ r
-    pick (yes last) ih = rw last at e
-    pick (no earlier) ih = rw (ih (omega arith)) (stands (judgedAlone p n))
-
--- The least key that may stand in entry i: one more than the key before.
-unfoldable pub floorAt : List ℕ → ℕ → ℕ
-floorAt p zero = 0
-floorAt p (suc i) = keyOf (entryIn p i) + 1
-
--- After i entries, none of them at fault.
-pub record Judging (p : List ℕ) (floor i : ℕ) : Type 0 where
-  pub within : i ≤ pairsIn p
-  pub good : judged p i ≡ Accepted (headIn p)
-  pub next : floor ≡ floorAt p i
-
-pub judging-none : (p : List ℕ) → Judging p 0 0
-unfolding judged floorAt
-judging-none p = record { within = omega arith; good = refl; next = refl }
+-- ---- one entry
 
 -- Row 9 by keys.
 
@@ -55,78 +34,122 @@ unfolding sinks floorAt
 sinks-so p zero l = absurd (omega arith)
 sinks-so p (suc i) l = rw (keys-sink (entryIn p i) (entryIn p (suc i)) (channel-byte p i) (omega arith))
 
--- A turn of the loop: entry i stands, and x is its 20 bits, read as one number.
-pub record Turn (p : List ℕ) (h : Head) (floor i x : ℕ) : Type 0 where
-  pub is-head : h ≡ headIn p
-  pub so-far : Judging p floor i
-  pub more : i < h .pairs .0
-  pub read : x ≡ fieldAt p (32 + 20 * i) 20
+-- The 20 bits of entry i, read as one number x, are its key and then its rank.
+entry-key : (p : List ℕ) (i x : ℕ) → x ≡ fieldAt p (32 + 20 * i) 20 → x / 16 ≡ keyOf (entryIn p i)
+entry-key p i x read = let parts = entry-parts p i x read in omega (arith, parts .signal, parts .channel)
 
--- The ways through the loop's body.
-module _ {p : List ℕ} {h : Head} {floor i x : ℕ} (t : Turn p h floor i x) where
+-- Entry i with the head, the least key that may stand there, and its 20 bits at hand
+module _ (p : List ℕ) (i : ℕ) {h : Head} {floor x : ℕ}
+    (known : (h ≡ headIn p) × (floor ≡ floorAt p i) × (x ≡ fieldAt p (32 + 20 * i) 20)) where
+  is-head : h ≡ headIn p
+  is-head = known .0
+
   parts : EntryParts p i x
-  parts = entry-parts p i x (t .read)
+  parts = entry-parts p i x (known .2)
 
-  within : i < pairsIn p
+  stray : strays p i ≡ true → NotInTable i ≡ judgedAlone p i
+  unfolding judgedAlone
+  stray e = rw e
+
+  pub stray-signal : h .signals ≤ x / 16 / 256 → NotInTable i ≡ judgedAlone p i
   unfolding headIn
-  within = rw (t .is-head) at (t .more)
+  stray-signal l = stray (strays-signal p i (rw (is-head, parts .signal) at l))
 
-  refused : strays p i ≡ true → NotInTable i ≡ judged p (pairsIn p)
-  unfolding judged judgedAlone goOn
-  refused e = sym (refused-stands p (suc i) (pairsIn p) (NotInTable i) (λ next. refl) (rw (t .so-far .good, e)) within)
-
-  pub stray-signal : h .signals ≤ x / 16 / 256 → NotInTable i ≡ judged p (pairsIn p)
+  pub stray-channel : h .channels ≤ x / 16 % 256 → NotInTable i ≡ judgedAlone p i
   unfolding headIn
-  stray-signal l = refused (strays-signal p i (rw (t .is-head, parts .signal) at l))
+  stray-channel l = stray (strays-channel p i (rw (is-head, parts .channel) at l))
 
-  pub stray-channel : h .channels ≤ x / 16 % 256 → NotInTable i ≡ judged p (pairsIn p)
+  -- rank 0, which comes round to 15, or a rank above the table's
+  pub stray-rank : h .ranks ≤ (x % 16 + 15) % 16 → NotInTable i ≡ judgedAlone p i
   unfolding headIn
-  stray-channel l = refused (strays-channel p i (rw (t .is-head, parts .channel) at l))
+  stray-rank l = pick (ℕ-discrete (x % 16) 0)
+    where
+      pick : Dec (x % 16 ≡ 0) → NotInTable i ≡ judgedAlone p i
+      pick (yes none) = stray (strays-no-rank p i (sym (parts .rank) ∙ none))
+      pick (no some) = let high : h .ranks < x % 16 = omega arith in stray (strays-rank p i (rw (is-head, parts .rank) at high))
 
-  pub stray-no-rank : x % 16 ≡ 0 → NotInTable i ≡ judged p (pairsIn p)
-  stray-no-rank e = refused (strays-no-rank p i (sym (parts .rank) ∙ e))
+  module _ (signal : x / 16 / 256 < h .signals) (channel : x / 16 % 256 < h .channels) (rank : (x % 16 + 15) % 16 < h .ranks) where
+    few : h .ranks < 16
+    unfolding headIn ranksIn
+    few = rw is-head (field-bound p 16 4)
 
-  pub stray-rank : h .ranks < x % 16 → NotInTable i ≡ judged p (pairsIn p)
-  unfolding headIn
-  stray-rank l = refused (strays-rank p i (rw (t .is-head, parts .rank) at l))
-
-  module _ (signal : x / 16 / 256 < h .signals) (channel : x / 16 % 256 < h .channels) (some-rank : 1 ≤ x % 16)
-      (rank : x % 16 ≤ h .ranks) where
     in-table : InTable p i
     unfolding headIn
     in-table =
+        let some : 1 ≤ x % 16 = omega (arith, few) in
+        let low : x % 16 ≤ h .ranks = omega (arith, few) in
         record {
-          signal = rw (t .is-head, parts .signal) at signal;
-          channel = rw (t .is-head, parts .channel) at channel;
-          some-rank = rw (parts .rank) at some-rank;
-          rank = rw (t .is-head, parts .rank) at rank;
+          signal = rw (is-head, parts .signal) at signal;
+          channel = rw (is-head, parts .channel) at channel;
+          some-rank = rw (parts .rank) at some;
+          rank = rw (is-head, parts .rank) at low;
         }
 
-    key : x / 16 ≡ keyOf (entryIn p i)
-    key = omega (arith, parts .signal, parts .channel)
+    pub sunk : x / 16 < floor → NotAbove i ≡ judgedAlone p i
+    unfolding judgedAlone
+    sunk l = rw (in-table-passes p i in-table, sinks-so p i (omega (arith, entry-key p i x (known .2))))
 
-    pub sunk : x / 16 < floor → NotAbove i ≡ judged p (pairsIn p)
-    unfolding judged judgedAlone goOn
-    sunk l =
-        sym
-        (refused-stands p (suc i) (pairsIn p) (NotAbove i) (λ next. refl)
-        (rw (t .so-far .good, in-table-passes p i in-table, sinks-so p i (rw (key, t .so-far .next) at l)))
-        within)
+    pub stands : floor ≤ x / 16 → Accepted h ≡ judgedAlone p i
+    unfolding judgedAlone
+    stands l = rw (in-table-passes p i in-table, sinks-not p i (omega (arith, entry-key p i x (known .2)))) (ap Accepted is-head)
 
-    pub judging-more : floor ≤ x / 16 → (next : ℕ) → next ≡ x / 16 + 1 → Judging p next (i + 1)
-    unfolding judged judgedAlone goOn floorAt
-    judging-more l next e =
+-- ---- all entries
+
+-- A refusal of the first i entries is what any more of them come to.
+refused-stands : (p : List ℕ) (i n : ℕ) (r : Checked) → 1 ≤ checkedNumber r → judged p i ≡ r → i ≤ n → judged p n ≡ r
+unfolding judged
+refused-stands p i zero r refuses e l = let first : i ≡ 0 = omega arith in rw first at e
+refused-stands p i (suc n) r refuses e l = pick (ℕ-discrete i (suc n)) (refused-stands p i n r refuses e)
+  where
+    pick : Dec (i ≡ suc n) → (i ≤ n → judged p n ≡ r) → goOn (judged p n) (judgedAlone p n) ≡ r
+    pick (yes last) ih = rw last at e
+    pick (no earlier) ih = rw (ih (omega arith)) (⊎-elim (λ refused. refused .1) (λ passed. absurd (omega arith)) (gone-on r (judgedAlone p n)))
+
+-- After i entries of the table of head h, none of them at fault.
+pub record Judging (p : List ℕ) (h : Head) (floor i : ℕ) : Type 0 where
+  pub is-head : h ≡ headIn p
+  pub within : i ≤ h .pairs .0
+  pub good : judged p i ≡ Accepted h
+  pub least : floor ≡ floorAt p i
+
+pub judging-none : {p : List ℕ} {h : Head} → h ≡ headIn p → Judging p h 0 0
+unfolding judged floorAt
+judging-none is-head = record { is-head = is-head; within = omega arith; good = sym (ap Accepted is-head); least = refl }
+
+pub judging-same : {p : List ℕ} {h : Head} {f g i j : ℕ} → f ≡ g → i ≡ j → Judging p h f i → Judging p h g j
+judging-same e e′ so-far = rw (e, e′) at so-far
+
+module _ {p : List ℕ} {h : Head} {floor i : ℕ} (so-far : Judging p h floor i) where
+  counted : h .pairs .0 ≡ pairsIn p
+  counted = head-pairs p h (so-far .is-head)
+
+  -- Once all entries are judged, the table is accepted.
+  pub judging-done : i ≡ h .pairs .0 → Accepted h ≡ judged p (pairsIn p)
+  judging-done all = sym (rw (all ∙ counted) at (so-far .good))
+
+  -- Entry i, judged alone
+  module _ {r : Checked} (alone : r ≡ judgedAlone p i) where
+    so-now : judged p (suc i) ≡ r
+    unfolding judged goOn
+    so-now = rw (so-far .good) (sym alone)
+
+    -- is the first at fault,
+    pub judging-stop : i < h .pairs .0 → 1 ≤ checkedNumber r → r ≡ judged p (pairsIn p)
+    judging-stop more refuses = sym (refused-stands p (suc i) (pairsIn p) r refuses so-now (omega (arith, counted)))
+
+    -- or is the last,
+    pub judging-last : i + 1 ≡ h .pairs .0 → r ≡ judged p (pairsIn p)
+    judging-last last = let all : suc i ≡ pairsIn p = omega (arith, counted) in sym (rw all at so-now)
+
+    -- or is not at fault. Its 20 bits say which key is the least that may come next.
+    pub judging-more : i < h .pairs .0 → checkedNumber r ≡ 0 → {x : ℕ} → x ≡ fieldAt p (32 + 20 * i) 20
+        → Judging p h (x / 16 + 1) (i + 1)
+    unfolding floorAt
+    judging-more more passes {x} read =
         rw (add-one i)
         (record {
-          within = within;
-          good = rw (t .so-far .good, in-table-passes p i in-table, sinks-not p i (rw (key, t .so-far .next) at l));
-          next = omega (arith, key);
+          is-head = so-far .is-head;
+          within = more;
+          good = so-now ∙ alone ∙ accepted-alone p i (rw alone at passes) ∙ sym (ap Accepted (so-far .is-head));
+          least = omega (arith, entry-key p i x read);
         })
-
--- Once all entries are judged, the table is accepted.
-pub judging-done : (p : List ℕ) (h : Head) → h ≡ headIn p → {floor i : ℕ} → Judging p floor i → h .pairs .0 ≤ i
-    → Accepted h ≡ judged p (pairsIn p)
-unfolding headIn
-judging-done p h is-head {floor} {i} so-far l =
-    let all : i ≡ pairsIn p = le-antisymm (so-far .within) (rw is-head at l) in
-    ap Accepted is-head ∙ sym (rw all at (so-far .good))

@@ -1,9 +1,9 @@
--- Why checking answers as it should (Parts, Judging, Rows, Acceptance, Tight), and which table a payload holds: its entries (Ascending,
+-- Why checking answers as it should (Parts, Rows, Acceptance, Judging, Tight), and which table a payload holds: its entries (Ascending,
 -- Entries), that it is the table of one payload only (OnePayload), and tables made from others (Cutting, Joining, Making).
 pub mod Parts
-pub mod Judging
 pub mod Rows
 pub mod Acceptance
+pub mod Judging
 pub mod Tight
 pub mod Ascending
 pub mod Entries

@@ -1,8 +1,9 @@
 -- What the tests of one entry mean. Row 8: an entry is in the table or strays (in-table-passes, passed-in-table). Row 9: entries
 -- stand above one another where their keys ascend (above-passes, passed-above, keys-ascend, keys-sink). And the 32 bits of
--- the head and the 20 bits of an entry, read as one number, taken apart (head-parts, entry-parts).
+-- the head, the 20 bits of an entry and the 40 of two, read as one number, taken apart (head-parts, entry-parts, even-entry,
+-- odd-entry).
 use Prim.Native.Nat.{ℕ, _+_, _*_, _/_, _%_, _≤_, _<_}
-use mathlib.Core.Path.{_≡_, refl}
+use mathlib.Core.Path.{_≡_, refl, ap, _∙_}
 use mathlib.Core.Bool.{Bool, true, false, _&&_, and-false, false≢true}
 use mathlib.Core.List.{List}
 use native.Mathlib.Nat.{lt-of-not-le}
@@ -13,8 +14,9 @@ use borrow.Author.Tests.{ltb-true, leb-true, eqb-true, not-false, lt-ltb, le-ltb
 use Rattle.fields.specs.Fields.{fieldAt}
 use Rattle.fields.proofs.Bits.{field-bound, field-left, field-right}
 use Rattle.plans.specs.Tables.{Entry}
+use Rattle.table.specs.declared.Head.{Head}
 use Rattle.table.specs.Payload.{signalsIn, channelsIn, ranksIn, pairsIn, entryBit, entryIn}
-use Rattle.table.specs.Checking.{headIn, strays, above, Above}
+use Rattle.table.specs.Checking.{headIn, strays, above, keyOf, Above}
 use Rattle.table.specs.Checking.Above.{by-signal, by-channel}
 
 pub both : (a b : Bool) → (a && b) ≡ true → (a ≡ true) × (b ≡ true)
@@ -73,10 +75,6 @@ pub channel-byte : (p : List ℕ) (i : ℕ) → entryIn p i .channel < 256
 unfolding entryIn
 channel-byte p i = field-bound p (entryBit i + 8) 8
 
--- Signal and channel as one number of 16 bits: entries ascend where their keys do.
-abbrev pub keyOf : Entry → ℕ
-keyOf e = 256 * e .signal + e .channel
-
 module _ (e f : Entry) where
   pub above-passes : Above e f → above e f ≡ true
   unfolding above
@@ -129,6 +127,10 @@ head-parts p x e =
       field-right p 0 20 12,
     )
 
+pub head-pairs : (p : List ℕ) (h : Head) → h ≡ headIn p → h .pairs .0 ≡ pairsIn p
+unfolding headIn
+head-pairs p h e = ap (λ (k : Head). k .pairs .0) e
+
 -- The 20 bits of entry i, read as one number x: its key and its rank.
 pub record EntryParts (p : List ℕ) (i x : ℕ) : Type 0 where
   pub signal : x / 16 / 256 ≡ entryIn p i .signal
@@ -145,3 +147,16 @@ entry-parts p i x e =
       channel = rw key (field-right p at 8 8);
       rank = rw e (field-right p at 16 4);
     }
+
+-- Two entries are five bytes, the one with the even index first.
+module _ (p : List ℕ) (two : ℕ) {x : ℕ} (read : x ≡ fieldAt p (8 * (4 + 5 * two)) 40) where
+  from-entry : x ≡ fieldAt p (32 + 20 * (2 * two)) 40
+  from-entry = let bit : 8 * (4 + 5 * two) ≡ 32 + 20 * (2 * two) = omega arith in read ∙ ap (λ k. fieldAt p k 40) bit
+
+  pub even-entry : x / 1048576 ≡ fieldAt p (32 + 20 * (2 * two)) 20
+  even-entry = ap (λ (y : ℕ). y / 1048576) from-entry ∙ field-left p (32 + 20 * (2 * two)) 20 20
+
+  pub odd-entry : x % 1048576 ≡ fieldAt p (32 + 20 * (2 * two + 1)) 20
+  odd-entry =
+      let bit : 32 + 20 * (2 * two) + 20 ≡ 32 + 20 * (2 * two + 1) = omega arith in
+      ap (λ (y : ℕ). y % 1048576) from-entry ∙ field-right p (32 + 20 * (2 * two)) 20 20 ∙ ap (λ k. fieldAt p k 20) bit

@@ -1,7 +1,7 @@
 -- One law for each way through checking a payload: what the tests that led there make of the definitions in specs/Checking.
 -- h is the head that was read.
 use Prim.Native.Nat.{ℕ, _+_, _-_, _*_, _≤_, _<_}
-use mathlib.Core.Path.{_≡_, ap, _∙_}
+use mathlib.Core.Path.{_≡_, _∙_}
 use mathlib.Core.Bool.{true, false, cond, or-true}
 use mathlib.Core.List.{List}
 use native.Mathlib.Omega.{arith}
@@ -14,6 +14,7 @@ use Rattle.table.specs.declared.Head.{Head}
 use Rattle.table.specs.declared.Checked.the-variants.{Short, TooLarge, WrongLength, DirtyFill}
 use Rattle.table.specs.Payload.{signalsIn, channelsIn, pairsIn, entryBit, payloadLength, fillIn}
 use Rattle.table.specs.Checking.{headIn, tooLarge, judged, checkedOf}
+use Rattle.table.proofs.Parts.{head-pairs}
 
 pub checked-short : (p : List ℕ) → length p < 4 → Short ≡ checkedOf p
 unfolding checkedOf
@@ -59,8 +60,7 @@ module _ {p : List ℕ} {h : Head} (r : HeadFits p h) where
       )
 
   counted : h .pairs .0 ≡ pairsIn p
-  unfolding headIn
-  counted = ap (λ (k : Head). k .pairs .0) (r .read .is-head)
+  counted = head-pairs p h (r .read .is-head)
 
   -- what is left to be judged
   past-row-5 : checkedOf p

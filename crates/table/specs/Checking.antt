@@ -1,5 +1,5 @@
 -- What checking a bare payload answers, for every byte string (rows 4 to 9 of document 01's table of refusals).
-use Prim.Native.Nat.{ℕ, zero, suc, _≤_, _<_}
+use Prim.Native.Nat.{ℕ, zero, suc, _+_, _*_, _≤_, _<_}
 use mathlib.Core.Path.{_≡_}
 use mathlib.Core.Bool.{Bool, false, not, cond, _&&_, _||_}
 use mathlib.Core.List.{List}
@@ -37,6 +37,15 @@ sinks p (suc i) = not (above (entryIn p i) (entryIn p (suc i)))
 -- Entry i alone: row 8 first, then row 9.
 unfoldable pub judgedAlone : List ℕ → ℕ → Checked
 judgedAlone p i = cond (strays p i) (NotInTable i) (cond (sinks p i) (NotAbove i) (Accepted (headIn p)))
+
+-- Signal and channel as one number of 16 bits: entries ascend where their keys do.
+abbrev pub keyOf : Entry → ℕ
+keyOf e = 256 * e .signal + e .channel
+
+-- the least key that may stand in entry i: one more than the key before
+unfoldable pub floorAt : List ℕ → ℕ → ℕ
+floorAt p zero = 0
+floorAt p (suc i) = keyOf (entryIn p i) + 1
 
 -- a refusal stands; only what was accepted so far is judged on
 unfoldable pub goOn : Checked → Checked → Checked

@@ -1,8 +1,10 @@
 // Checking a bare payload: whether it is a table's, and which refusal it gets if not (rows 4 to 9). specs/Payload says which table a
 // payload holds, specs/Checking what checking answers for every byte string.
 ghost use mathlib.Core.Path.{_≡_};
+ghost use Prim.Native.Nat.{_+_, _*_};
+ghost use Rattle.fields.specs.Fields.{fieldAt};
 ghost use Rattle.table.specs.Payload.{pairsIn};
-ghost use Rattle.table.specs.Checking.{headIn, judged, checkedOf, checkedNumber, checkedPlace, checkedHead};
+ghost use Rattle.table.specs.Checking.{headIn, floorAt, judgedAlone, judged, checkedOf, checkedNumber, checkedPlace, checkedHead};
 use units::Entries;
 
 // The numbers of a table's head.
@@ -43,38 +45,60 @@ fn head_of(payload: &[u8]) -> Head
     }
 }
 
-// Judges the entries one by one (rows 8 and 9). An entry is read once, as 20 bits; all but its rank is its key, 256 times
-// the signal and the channel, so entries ascend where their keys do. `floor` is the least key that may come next.
+// Judges entry i alone (rows 8 and 9), with its 20 bits at hand. All but its rank is its key, 256 times the signal and the
+// channel, so entries ascend where their keys do; `floor` is the least key that may stand here. Rank 0 comes round to 15,
+// which is never below `ranks`.
+fn judge(payload: &[u8], head: Head, floor: usize, i: usize, entry: usize) -> Checked
+    requires { ⌜ (head ≡ headIn (now payload)) × (floor ≡ floorAt (now payload) i) × (entry ≡ fieldAt (now payload) (32 + 20 * i) 20) ⌝ }
+    ensures { λ r. ⌜ r ≡ judgedAlone (now (payload .entry)) i ⌝ }
+{
+    let key = entry / 16;
+    let rank = entry % 16;
+    if head.signals <= key / 256 {
+        return Checked::NotInTable(i);
+    }
+    if head.channels <= key % 256 {
+        return Checked::NotInTable(i);
+    }
+    if head.ranks <= (rank + 15) % 16 {
+        return Checked::NotInTable(i);
+    }
+    if key < floor {
+        return Checked::NotAbove(i);
+    }
+    Checked::Accepted(head)
+}
+
+// Judges the entries in turn. Two of them are five whole bytes, so they are read two by two.
 fn check_entries(payload: &[u8], head: Head) -> Checked
     requires { ⌜ head ≡ headIn (now payload) ⌝ }
     ensures { λ r. ⌜ r ≡ judged (now (payload .entry)) (pairsIn (now (payload .entry))) ⌝ }
 {
     let pairs = head.pairs.0 as usize;
+    let twos = pairs / 2;
     let mut floor: usize = 0;
-    let mut i = 0;
-    while i < pairs {
-        let entry = fields::read(payload, 32 + 20 * i, 20) as usize;
-        let key = entry / 16;
-        let rank = entry % 16;
-        if head.signals <= key / 256 {
-            return Checked::NotInTable(i);
+    let mut two = 0;
+    while two < twos {
+        let both = fields::five_bytes(payload, 4 + 5 * two) as usize;
+        let even = both / 1048576;
+        let first = judge(payload, head, floor, 2 * two, even);
+        if first.number() != 0 {
+            return first;
         }
-        if head.channels <= key % 256 {
-            return Checked::NotInTable(i);
+        let odd = both % 1048576;
+        let second = judge(payload, head, even / 16 + 1, 2 * two + 1, odd);
+        if second.number() != 0 {
+            return second;
         }
-        if rank == 0 {
-            return Checked::NotInTable(i);
-        }
-        if head.ranks < rank {
-            return Checked::NotInTable(i);
-        }
-        if key < floor {
-            return Checked::NotAbove(i);
-        }
-        floor = key + 1;
-        i += 1;
+        floor = odd / 16 + 1;
+        two += 1;
     }
-    Checked::Accepted(head)
+    if pairs % 2 == 0 {
+        return Checked::Accepted(head);
+    }
+    let last = pairs - 1;
+    let entry = fields::read(payload, 32 + 20 * last, 20) as usize;
+    judge(payload, head, floor, last, entry)
 }
 
 // Checks a bare payload (rows 4 to 9).

@@ -1,24 +1,93 @@
--- `table::check_entries` meets its contract. The loop keeps Judging; each way through its body is one law of proofs/Judging.
-use Prim.Native.Nat.{_-_}
+-- `table::check_entries` meets its contract. The loop keeps Judging, after two entries more at each turn; each way on is one law of
+-- proofs/Judging.
+use Prim.Native.Nat.{_+_, _-_, _*_, _/_}
 use native.Mathlib.Omega.{arith}
-use mathlib.Core.Path.{ap, _∙_}
+use mathlib.Core.Path.{refl}
 use denote.Ref.{now}
-use Rattle.table.specs.declared.Checked.the-variants.{NotAbove}
-use Rattle.table.proofs.Judging.{Judging, Turn, judging-none, stray-signal, stray-channel, stray-no-rank, stray-rank, sunk, judging-more, judging-done}
+use Rattle.table.proofs.Parts.{even-entry, odd-entry}
+use Rattle.table.proofs.Judging.{Judging, judging-none, judging-same, judging-done, judging-stop, judging-last, judging-more}
 use Rattle.table.proofs.check_entries.Statement.{statement}
 use Rattle.table.proofs.check_entries.Tie as tie
 
 abbrev Inv-loop : tie.InvT-loop
-Inv-loop payload head pairs floor₀ i₀ floor i = Judging payload floor i
+Inv-loop payload head pairs twos floor₀ two₀ floor two = Judging payload head floor (2 * two)
 
 abbrev μ-loop : tie.MeasureT-loop
-μ-loop payload head pairs floor₀ i₀ floor i = pairs - i
+μ-loop payload head pairs twos floor₀ two₀ floor two = twos - two
 
 cast-pairs : tie.Need-cast-pairs Inv-loop μ-loop
 cast-pairs c = omega arith
 
 loop-holds : tie.Need-loop-holds Inv-loop μ-loop
-loop-holds c = judging-none _
+loop-holds c = judging-none (c .before .before .pre)
+
+mul-five-bytes : tie.Need-mul-five-bytes Inv-loop μ-loop
+mul-five-bytes c = omega arith
+
+add-five-bytes : tie.Need-add-five-bytes Inv-loop μ-loop
+add-five-bytes c = omega arith
+
+five-bytes-requires : tie.Need-five-bytes-requires Inv-loop μ-loop
+five-bytes-requires c κs = omega arith
+
+mul-judge : tie.Need-mul-judge Inv-loop μ-loop
+mul-judge c = omega arith
+
+judge-requires : tie.Need-judge-requires Inv-loop μ-loop
+judge-requires c κs =
+    let so-far = c .before .before .loop .inv in (so-far .is-head, so-far .least, even-entry _ _ (c .five-bytes .ensures))
+
+number-requires : tie.Need-number-requires Inv-loop μ-loop
+number-requires c κs = tt
+
+returns : tie.Need-returns Inv-loop μ-loop
+returns c = judging-stop (c .before .before .before .before .before .loop .inv) (c .before .before .judge .ensures) (omega arith) (omega arith)
+
+-- the first of two is not at fault
+after-first : (c : tie.Else1 Inv-loop μ-loop)
+    → Judging (now (c .before .before .before .before .before .before .before .before .args .payload)) (c .before .before .before .before .before .before .before .before .args .head)
+    (c .before .before .before .five-bytes .result / 1048576 / 16 + 1) (2 * c .before .before .before .before .before .loop .two + 1)
+after-first c =
+    judging-more (c .before .before .before .before .before .loop .inv) (c .before .before .judge .ensures) (omega arith) (omega arith) (even-entry _ _ (c .before .before .before .five-bytes .ensures))
+
+add-judge : tie.Need-add-judge Inv-loop μ-loop
+add-judge c = omega arith
+
+mul-judge-2 : tie.Need-mul-judge-2 Inv-loop μ-loop
+mul-judge-2 c = omega arith
+
+add-judge-2 : tie.Need-add-judge-2 Inv-loop μ-loop
+add-judge-2 c = omega arith
+
+judge-requires-2 : tie.Need-judge-requires-2 Inv-loop μ-loop
+judge-requires-2 c κs =
+    (after-first c .is-head, omega (arith, after-first c .least), odd-entry _ _ (c .before .before .before .five-bytes .ensures))
+
+number-requires-2 : tie.Need-number-requires-2 Inv-loop μ-loop
+number-requires-2 c κs = tt
+
+returns-2 : tie.Need-returns-2 Inv-loop μ-loop
+returns-2 c = judging-stop (after-first (c .before .before .before)) (c .before .before .judge2 .ensures) (omega arith) (omega arith)
+
+add-floor : tie.Need-add-floor Inv-loop μ-loop
+add-floor c = omega arith
+
+add-two : tie.Need-add-two Inv-loop μ-loop
+add-two c = omega arith
+
+loop-less : tie.Need-loop-less Inv-loop μ-loop
+loop-less c = omega arith
+
+loop-again : tie.Need-loop-again Inv-loop μ-loop
+loop-again c =
+    judging-same (omega arith) (omega arith)
+    (judging-more (after-first (c .before .before .before)) (c .before .before .judge2 .ensures) (omega arith) (omega arith) (odd-entry _ _ (c .before .before .before .before .before .before .five-bytes .ensures)))
+
+returns-3 : tie.Need-returns-3 Inv-loop μ-loop
+returns-3 c = judging-done (c .before .before .loop .inv) (omega arith)
+
+sub-last : tie.Need-sub-last Inv-loop μ-loop
+sub-last c = omega arith
 
 mul-read : tie.Need-mul-read Inv-loop μ-loop
 mul-read c = omega arith
@@ -32,53 +101,16 @@ read-requires c κs = omega arith
 cast-entry : tie.Need-cast-entry Inv-loop μ-loop
 cast-entry c = omega arith
 
-turn : (c : tie.After-read Inv-loop μ-loop)
-    → Turn (now (c .before .before .before .before .before .args .payload)) (c .before .before .before .before .before .args .head)
-    (c .before .before .loop .floor) (c .before .before .loop .i) (c .read .result)
-turn c =
-    record {
-      is-head = c .before .before .before .before .before .pre;
-      so-far = c .before .before .loop .inv;
-      more = c .before .loop-test .taken;
-      read = c .read .ensures;
-    }
+-- only the last entry is left
+before-last : (c : tie.Else3 Inv-loop μ-loop)
+    → Judging (now (c .before .before .before .before .before .args .payload)) (c .before .before .before .before .before .args .head) (c .before .before .loop .floor) (c .before .before .before .before .before .args .head .pairs .0 - 1)
+before-last c = judging-same refl (omega arith) (c .before .before .loop .inv)
 
-returns : tie.Need-returns Inv-loop μ-loop
-returns c = stray-signal (turn (c .before .before)) (omega arith)
-
-returns-2 : tie.Need-returns-2 Inv-loop μ-loop
-returns-2 c = stray-channel (turn (c .before .before .before .before)) (omega arith)
-
-returns-3 : tie.Need-returns-3 Inv-loop μ-loop
-returns-3 c = stray-no-rank (turn (c .before .before .before .before .before)) (omega arith)
+judge-requires-3 : tie.Need-judge-requires-3 Inv-loop μ-loop
+judge-requires-3 c κs = let so-far = before-last (c .before) in (so-far .is-head, so-far .least, c .read .ensures)
 
 returns-4 : tie.Need-returns-4 Inv-loop μ-loop
-returns-4 c = stray-rank (turn (c .before .before .before .before .before .before .before)) (omega arith)
-
-returns-5 : tie.Need-returns-5 Inv-loop μ-loop
-returns-5 c =
-    ap NotAbove (omega arith)
-    ∙ sunk (turn (c .before .before .before .before .before .before .before .before))
-    (omega arith) (omega arith) (omega arith) (omega arith) (omega arith)
-
-add-floor : tie.Need-add-floor Inv-loop μ-loop
-add-floor c = omega arith
-
-add-i : tie.Need-add-i Inv-loop μ-loop
-add-i c = omega arith
-
-loop-less : tie.Need-loop-less Inv-loop μ-loop
-loop-less c = omega arith
-
-loop-again : tie.Need-loop-again Inv-loop μ-loop
-loop-again c =
-    judging-more (turn (c .before .before .before .before .before .before .before .before))
-    (omega arith) (omega arith) (omega arith) (omega arith) (omega arith) _ (omega arith)
-
-returns-6 : tie.Need-returns-6 Inv-loop μ-loop
-returns-6 c =
-    let entry = c .before .before .before .before in
-    judging-done _ (entry .args .head) (entry .pre) (c .before .loop .inv) (c .loop-test .left)
+returns-4 c = judging-last (before-last (c .before .before)) (c .judge3 .ensures) (omega arith)
 
 pub check-entries-spec : {M : Type 1} → statement M
 check-entries-spec =
@@ -88,17 +120,28 @@ check-entries-spec =
     μ-loop
     cast-pairs
     loop-holds
+    mul-five-bytes
+    add-five-bytes
+    five-bytes-requires
+    mul-judge
+    judge-requires
+    number-requires
+    returns
+    add-judge
+    mul-judge-2
+    add-judge-2
+    judge-requires-2
+    number-requires-2
+    returns-2
+    add-floor
+    add-two
+    loop-less
+    loop-again
+    returns-3
+    sub-last
     mul-read
     add-read
     read-requires
     cast-entry
-    returns
-    returns-2
-    returns-3
-    returns-4
-    returns-5
-    add-floor
-    add-i
-    loop-less
-    loop-again
-    returns-6)
+    judge-requires-3
+    returns-4)

@@ -5,7 +5,8 @@ use mathlib.Core.Path.{_∙_}
 use Rattle.placer.specs.Work.{SameBut}
 use Rattle.placer.specs.Unpacking.{Filled, Chained}
 use Rattle.placer.proofs.Area.{but-refl, but-trans}
-use Rattle.placer.proofs.Links.{even-entry, odd-entry, chained-at}
+use Rattle.table.proofs.Parts.{even-entry, odd-entry}
+use Rattle.placer.proofs.Links.{chained-at}
 use Rattle.placer.proofs.unpacking.chain.Statement.{statement}
 use Rattle.placer.proofs.unpacking.chain.Tie as tie
 
