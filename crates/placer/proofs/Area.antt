@@ -25,6 +25,10 @@ put-set w off i x l =
       others = λ k h. getD-set-other w (off + i) k x 0 h;
     }
 
+-- the place and the number of a store, by their values
+pub put-is : {w v : List ℕ} {a b i j x y : ℕ} → Put w a i x v → a ≡ b → i ≡ j → x ≡ y → Put w b j y v
+put-is p e f g = rw (e, f, g) at p
+
 module _ {w v : List ℕ} {off i x : ℕ} (p : Put w off i x v) where
   pub put-other : (other j : ℕ) → (other + j ≡ off + i → ⊥) → at v other j ≡ at w other j
   unfolding at

@@ -164,8 +164,8 @@ placed-after z v w n A rank r =
 -- In the code's own terms: rank counts the ranks done, and rank + 1 is the one that is placed.
 
 module _ {z : Size} {rank : ℕ} {v w : List ℕ} (n : Input z v) (A : After z rank v w) where
-  pub enter-asks : rank < z .ranks → Input z w × Lists z w × Room z (rank + 1) w × (1 ≤ rank + 1) × (rank + 1 ≤ z .ranks)
-  enter-asks inside = (same-input (A .input) n, A .lists, rw add-one (A .room), omega arith, omega arith)
+  pub enter-asks : {next : ℕ} → rank < z .ranks → next ≡ rank + 1 → Input z w × Lists z w × Room z next w × (1 ≤ next) × (next ≤ z .ranks)
+  enter-asks inside e = (same-input (A .input) n, A .lists, rw (e, add-one) (A .room), omega arith, omega arith)
 
   module _ {x : List ℕ} (E : Entered z (rank + 1) w x) where
     entered : Entered z (suc rank) w x

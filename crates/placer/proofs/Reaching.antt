@@ -45,6 +45,10 @@ pub record Scanning (z : Size) (root : ℕ) (v w : List ℕ) (signal head tail k
   pub end-is : end ≡ at v END signal
   pub scanned : Scanned v w signal k
 
+pub scanning-at : {z : Size} {root : ℕ} {v w : List ℕ} {signal head tail i j end : ℕ} → i ≡ j → Scanning z root v w signal head tail i end
+    → Scanning z root v w signal head tail j end
+scanning-at e x = rw e at x
+
 module _ {z : Size} {root : ℕ} {v : List ℕ} (b : Begun z root v) where
   in-list : (s p : ℕ) → at v START s ≤ p → p < at v END s → InList v s (at v LIVE p)
   in-list s p a e = record { place = p; from = a; below = e; is = refl }

@@ -31,7 +31,7 @@ add-rank : tie.Need-add-rank Inv-loop μ-loop
 add-rank c = omega (arith, c .before .before .loop .inv .1 .few-ranks)
 
 enter-requires : tie.Need-enter-requires Inv-loop μ-loop
-enter-requires c κs = enter-asks (c .before .before .before .loop .inv .1) (c .before .before .before .loop .inv .2) (c .before .if1 .taken)
+enter-requires c κs = enter-asks (c .before .before .before .loop .inv .1) (c .before .before .before .loop .inv .2) (c .before .if1 .taken) (omega arith)
 
 grow-requires : tie.Need-grow-requires Inv-loop μ-loop
 grow-requires c κs = grow-asks (c .before .before .before .before .before .before .before .before .loop .inv .1) (c .before .before .before .before .before .before .before .before .loop .inv .2) (c .before .before .before .before .enter .ensures .0)

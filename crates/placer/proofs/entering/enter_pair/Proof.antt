@@ -3,6 +3,7 @@ use borrow.Author.Needs.{needs}
 use native.Mathlib.Omega.{arith}
 use mathlib.Core.Path.{refl}
 use Rattle.placer.specs.State.EnteredPair.{joined, left-out}
+use Rattle.placer.proofs.Area.{put-is}
 use Rattle.placer.proofs.Joined.{pair-end, pair-left-out, pair-joined}
 use Rattle.placer.proofs.entering.enter_pair.Statement.{statement}
 use Rattle.placer.proofs.entering.enter_pair.Tie as tie
@@ -50,8 +51,8 @@ returns c =
     (c .before .before .before .before .before .before .before .before .before .before .before .get3 .ensures .0)
     (c .before .before .before .before .before .before .before .before .before .before .if1 .taken)
     (c .before .before .before .before .before .before .before .before .get4 .ensures .0)
-    (c .before .before .before .before .before .before .put .ensures)
-    (c .before .before .put2 .ensures))
+    (put-is (c .before .before .before .before .before .before .put .ensures) (omega arith) (omega arith) (omega arith))
+    (put-is (c .before .before .put2 .ensures) (omega arith) (omega arith) (omega arith)))
 
 same-length-2 : tie.Need-same-length-2
 same-length-2 c = search needs

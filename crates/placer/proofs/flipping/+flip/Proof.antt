@@ -4,6 +4,7 @@ use mathlib.Core.Path.{_∙_}
 use native.Mathlib.Omega.{arith}
 use borrow.Fn.Kinds.{In}
 use borrow.Fn.PlainCycle.{Measures, is, falls, and}
+use Rattle.placer.proofs.Area.{put-is}
 use Rattle.placer.proofs.Flips.{turn-channel, turn-signal, turn-asks, flipped-more, flipped-last}
 use Rattle.placer.proofs.flipping.flip.Reads as flip
 use Rattle.placer.proofs.flipping.flip.Kinds as flip-kinds
@@ -53,7 +54,7 @@ flip-sub-flip t c =
 flip-flip-requires : (t : ℕ) → flip-lts.Need-flip-requires (claims t) (flip-at t) flip.Post
 flip-flip-requires t c κs =
     let pre = c .before .before .before .before .before .before .before .before .before .before .before .before .before .before .before .pre in
-    (omega (arith, pre .0, pre .1 .2 .inside), turn-asks (pre .1 .0) (pre .1 .1) (pre .1 .2) (pre .1 .3) (c .before .before .before .before .before .before .before .before .before .before .before .before .get .ensures .0) (c .before .before .before .before .before .before .before .before .put .ensures) (c .before .before .before .before .put2 .ensures) (c .before .before .before .before .before .before .before .before .before .before .get2 .ensures .0) (c .before .if1 .taken))
+    (omega (arith, pre .0, pre .1 .2 .inside), turn-asks (pre .1 .0) (pre .1 .1) (pre .1 .2) (pre .1 .3) (c .before .before .before .before .before .before .before .before .before .before .before .before .get .ensures .0) (put-is (c .before .before .before .before .before .before .before .before .put .ensures) (omega arith) (omega arith) (omega arith)) (put-is (c .before .before .before .before .put2 .ensures) (omega arith) (omega arith) (omega arith)) (c .before .before .before .before .before .before .before .before .before .before .get2 .ensures .0) (c .before .if1 .taken))
 
 flip-same-length : (t : ℕ) → flip-lts.Need-same-length (claims t) (flip-at t) flip.Post
 flip-same-length t c =
@@ -62,7 +63,7 @@ flip-same-length t c =
 flip-returns : (t : ℕ) → flip-lts.Need-returns (claims t) (flip-at t) flip.Post
 flip-returns t c =
     let pre = c .before .before .before .before .before .before .before .before .before .before .before .before .before .before .before .before .before .before .pre .1 in
-    flipped-more (pre .0) (pre .1) (pre .2) (pre .3) (c .before .before .before .before .before .before .before .before .before .before .before .before .before .before .before .get .ensures .0) (c .before .before .before .before .before .before .before .before .before .before .before .put .ensures) (c .before .before .before .before .before .before .before .put2 .ensures) (c .before .before .before .before .before .before .before .before .before .before .before .before .before .get2 .ensures .0) (c .before .before .before .before .if1 .taken) (c .before .before .flip .ensures)
+    flipped-more (pre .0) (pre .1) (pre .2) (pre .3) (c .before .before .before .before .before .before .before .before .before .before .before .before .before .before .before .get .ensures .0) (put-is (c .before .before .before .before .before .before .before .before .before .before .before .put .ensures) (omega arith) (omega arith) (omega arith)) (put-is (c .before .before .before .before .before .before .before .put2 .ensures) (omega arith) (omega arith) (omega arith)) (c .before .before .before .before .before .before .before .before .before .before .before .before .before .get2 .ensures .0) (c .before .before .before .before .if1 .taken) (c .before .before .flip .ensures)
 
 flip-same-length-2 : (t : ℕ) → flip-lts.Need-same-length-2 (claims t) (flip-at t) flip.Post
 flip-same-length-2 t c =
@@ -71,7 +72,7 @@ flip-same-length-2 t c =
 flip-returns-2 : (t : ℕ) → flip-lts.Need-returns-2 (claims t) (flip-at t) flip.Post
 flip-returns-2 t c =
     let pre = c .before .before .before .before .before .before .before .before .before .before .before .before .before .before .pre .1 in
-    flipped-last (pre .0) (pre .1) (pre .2) (pre .3) (c .before .before .before .before .before .before .before .before .before .before .before .get .ensures .0) (c .before .before .before .before .before .before .before .put .ensures) (c .before .before .before .put2 .ensures) (c .if1 .left)
+    flipped-last (pre .0) (pre .1) (pre .2) (pre .3) (c .before .before .before .before .before .before .before .before .before .before .before .get .ensures .0) (put-is (c .before .before .before .before .before .before .before .put .ensures) (omega arith) (omega arith) (omega arith)) (put-is (c .before .before .before .put2 .ensures) (omega arith) (omega arith) (omega arith)) (c .if1 .left)
 
 pub +flip-spec : {M : Type 1} → statement M
 +flip-spec = close μ-flip λ t. flip-lts.spec (claims t) (flip-at t) flip.Post

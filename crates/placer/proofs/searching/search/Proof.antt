@@ -8,8 +8,9 @@ use Prim.Native.Nat.{ℕ, _-_, _≤_, _<_}
 use lib.ListN.{length}
 use Rattle.placer.specs.declared.Size.{Size}
 use Rattle.placer.specs.Work.{at, QUEUE}
+use Rattle.placer.proofs.Area.{put-is}
 use Rattle.placer.proofs.Tree.{Begun}
-use Rattle.placer.proofs.Reaching.{Reaching, Scanning, reaching-begins, scanning-begins, scanning-seen, scanning-new, search-found, search-exhausted, reaching-next, signal-bounds, place-bounds, channel-bounds, queue-bounds, next-bounds}
+use Rattle.placer.proofs.Reaching.{scanning-at, Reaching, Scanning, reaching-begins, scanning-begins, scanning-seen, scanning-new, search-found, search-exhausted, reaching-next, signal-bounds, place-bounds, channel-bounds, queue-bounds, next-bounds}
 use Rattle.placer.proofs.searching.search.Statement.{statement}
 use Rattle.placer.proofs.searching.search.Tie as tie
 
@@ -105,8 +106,8 @@ loop-again c =
     let e = c .before .before .before .get3 .ensures .0 in
     let f = c .before .get4 .ensures .0 in
     ⊎-elim
-    (λ t. rw (t .12, t .13) (scanning-new b x l e (sym f ∙ t .0 .taken) (t .2 .ensures) (t .6 .ensures) (t .10 .ensures .0) (t .11 .left)))
-    (λ t. rw (t .1, t .2) (scanning-seen b x l e f (t .0 .left)))
+    (λ t. rw (t .12, t .13) (scanning-at (omega arith) (scanning-new b x l e (sym f ∙ t .0 .taken) (put-is (t .2 .ensures) (omega arith) (omega arith) (omega arith)) (put-is (t .6 .ensures) (omega arith) (omega arith) (omega arith)) (t .10 .ensures .0) (t .11 .left))))
+    (λ t. rw (t .1, t .2) (scanning-at (omega arith) (scanning-seen b x l e f (t .0 .left))))
     (c .if1 .came)
 
 same-length : tie.Need-same-length Inv-loop μ-loop Inv-reached μ-reached
@@ -144,7 +145,7 @@ returns-2 c =
     let t = c .before .before .before .before .before .before .before .before .before .before .before in
     let o = t .before .before .before .before .before .before in
     search-found (begun (start o)) (scanning o) (t .before .before .before .before .before .loop-test .taken) (t .before .before .before .get3 .ensures .0) (sym (t .before .get4 .ensures .0) ∙ t .if1 .taken)
-    (c .before .before .before .before .before .before .before .before .before .put .ensures) (c .before .before .before .before .before .put2 .ensures) (c .before .get5 .ensures .0) (c .if2 .taken)
+    (put-is (c .before .before .before .before .before .before .before .before .before .put .ensures) (omega arith) (omega arith) (omega arith)) (put-is (c .before .before .before .before .before .put2 .ensures) (omega arith) (omega arith) (omega arith)) (c .before .get5 .ensures .0) (c .if2 .taken)
 
 pub search-spec : {M : Type 1} → statement M
 search-spec =

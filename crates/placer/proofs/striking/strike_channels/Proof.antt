@@ -5,6 +5,7 @@ use native.Mathlib.Nat.{le-antisymm}
 use lib.ListN.{length}
 use Prim.Native.Nat.{_≤_, _-_}
 use Rattle.placer.specs.State.{StruckChannels}
+use Rattle.placer.proofs.Area.{put-is}
 use Rattle.placer.proofs.Strikes.{channels-none, channels-more}
 use Rattle.placer.proofs.striking.strike_channels.Statement.{statement}
 use Rattle.placer.proofs.striking.strike_channels.Tie as tie
@@ -51,8 +52,8 @@ loop-again c =
           (c .before .before .before .before .before .before .before .before .before .before .before .get .ensures .0)
           (c .before .before .before .before .before .before .before .before .before .get2 .ensures .0)
           (c .before .before .before .before .before .before .before .flag-after .ensures .0)
-          first
-          second,
+          (put-is first (omega arith) (omega arith) (omega arith))
+          (put-is second (omega arith) (omega arith) (omega arith)),
     )
 
 same-length : tie.Need-same-length Inv-loop μ-loop

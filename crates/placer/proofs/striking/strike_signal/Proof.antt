@@ -1,6 +1,7 @@
 -- `placer::striking::strike_signal` meets its contract: each return is one law of proofs/Strikes.
 use borrow.Author.Needs.{needs}
 use native.Mathlib.Omega.{arith}
+use Rattle.placer.proofs.Area.{put-is}
 use Rattle.placer.proofs.Strikes.{one-free, one-marked, one-channel, one-covered}
 use Rattle.placer.proofs.striking.strike_signal.Statement.{statement}
 use Rattle.placer.proofs.striking.strike_signal.Tie as tie
@@ -28,7 +29,8 @@ returns c =
     let sits = c .before .before .before .before .before .before .before .before .before .before .before .before .get .ensures .0 in
     let placed = c .before .before .before .before .before .before .before .before .before .before .before .if1 .taken in
     let read = c .before .before .before .before .before .before .before .before .before .get2 .ensures .0 in
-    one-covered (n .0) (n .1) (n .3) (n .2) sits placed read (c .before .before .before .before .before .before .before .before .if2 .taken) (c .before .before .before .before .before .before .thin-unless .ensures) (c .before .before .put .ensures)
+    one-covered (n .0) (n .1) (n .3) (n .2) sits placed read (c .before .before .before .before .before .before .before .before .if2 .taken) (c .before .before .before .before .before .before .thin-unless .ensures)
+    (put-is (c .before .before .put .ensures) (omega arith) (omega arith) (omega arith))
 
 same-length-2 : tie.Need-same-length-2
 same-length-2 c = search needs

@@ -3,7 +3,7 @@ use native.Mathlib.Omega.{arith}
 use mathlib.Core.Logic.{⊎-elim}
 use Prim.Native.Nat.{_-_}
 use mathlib.Core.Path.{_∙_, sym}
-use Rattle.placer.proofs.Area.{end-most}
+use Rattle.placer.proofs.Area.{put-is, end-most}
 use Rattle.placer.proofs.Thinning.{Thinning, thinning-none, thinning-channel, thinning-drop, thinning-keep, thinning-done}
 use Rattle.placer.proofs.striking.thin.Statement.{statement}
 use Rattle.placer.proofs.striking.thin.Tie as tie
@@ -78,7 +78,8 @@ returns : tie.Need-returns Inv-loop μ-loop
 returns c =
     let n = c .before .before .before .before .before .before .before .before .before .before .before .pre in
     let t = c .before .before .before .before .before .loop .inv in
-    thinning-done (n .0) (n .1) (n .2) (c .before .before .before .before .before .before .before .before .get .ensures .0) t (c .before .before .before .before .loop-test .left) (c .before .before .put2 .ensures)
+    thinning-done (n .0) (n .1) (n .2) (c .before .before .before .before .before .before .before .before .get .ensures .0) t (c .before .before .before .before .loop-test .left)
+    (put-is (c .before .before .put2 .ensures) (omega arith) (omega arith) (omega arith))
 
 pub thin-spec : {M : Type 1} → statement M
 thin-spec =
