@@ -12,6 +12,7 @@ mod exports;
 
 use block::framed_length;
 use block::open;
+use block::payload;
 use block::put_header;
 use placer::Size;
 use placer::place;
@@ -37,10 +38,7 @@ pub fn handle(block: &[u8], area: &mut [u8], work: &mut [u16]) -> Reply
     if number != 0 {
         return refusal(number, opening.place());
     }
-    let start = opening.start();
-    let length = opening.length();
-    let end = start + length.0;
-    let payload = &block[start..end];
+    let payload = payload(block);
     let checked = check(payload);
     let number = checked.number();
     if number != 0 {

@@ -8,17 +8,12 @@ use native.Mathlib.Decide.{ℕ-discrete}
 use native.Mathlib.Omega.{arith}
 use borrow.Author.Count.{below-more}
 use lib.ListN.{length}
-use Rattle.fields.specs.Fields.{fieldAt}
-use Rattle.fields.proofs.Bits.{field-bound}
-use Rattle.table.specs.Payload.{entryIn}
+use Rattle.table.specs.Payload.{entryBits, entryIn}
 use Rattle.table.proofs.Parts.{entry-parts}
 use Rattle.placer.specs.Work.{at, PAIR, LINK, FIRST, signalAt, channelAt, nextAt, rankAt, SameBut, Put}
 use Rattle.placer.specs.Unpacking.{Filled, Unchained, Chained}
 use Rattle.placer.specs.Unpacking.Filled.{pair-of, link-of, first-of}
 use Rattle.placer.proofs.Area.{put-other, but-refl, but-trans, but-put}
-
-pub entry-small : (p : List ℕ) (e : ℕ) {x : ℕ} → x ≡ fieldAt p (32 + 20 * e) 20 → x < 1048576
-entry-small p e read = rw read (field-bound p (32 + 20 * e) 20)
 
 -- The first r ranks have no entry yet.
 pub record Unchaining (pairs r : ℕ) (v w : List ℕ) : Type 0 where
@@ -60,7 +55,7 @@ chained-at e c = rw e at c
 
 -- Entry n, with those behind it chained
 module _ {p : List ℕ} {pairs n e x next : ℕ} {w w₁ w₂ w₃ : List ℕ} (c : Chained p pairs e w) (few : pairs ≤ 3000) (down : suc n ≡ e)
-    (more : e ≤ pairs) (read : x ≡ fieldAt p (32 + 20 * n) 20) (first : next ≡ at w FIRST (x % 16)) (pair : Put w PAIR n (x / 16) w₁)
+    (more : e ≤ pairs) (read : x ≡ entryBits p n) (first : next ≡ at w FIRST (x % 16)) (pair : Put w PAIR n (x / 16) w₁)
     (link : Put w₁ LINK n (next * 16 + x % 16) w₂) (head : Put w₂ FIRST (x % 16) n w₃) where
   small : x % 16 < 16
   small = omega arith

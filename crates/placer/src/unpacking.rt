@@ -2,7 +2,7 @@
 ghost use mathlib.Core.Path.{_≡_};
 ghost use Prim.Native.Nat.{_+_, _*_, _/_, _≤_, _<_};
 ghost use lib.ListN.{length};
-ghost use Rattle.fields.specs.Fields.{fieldAt};
+ghost use Rattle.table.specs.Payload.{entryBits};
 ghost use Rattle.table.specs.Checking.{Sound};
 ghost use Rattle.placer.specs.Work.{SameBut};
 ghost use Rattle.placer.specs.Unpacking.{SizeOf, Filled, Unpacked, Unchained, Chained, Ordered, Passed, Started};
@@ -13,8 +13,8 @@ use crate::work::PAIR;
 use crate::work::START;
 use crate::work::get;
 use crate::work::put;
-use fields::five_bytes;
-use fields::read;
+use table::entry_at;
+use table::two_entries;
 
 pub fn unpack(payload: &[u8], w: &mut [u16], size: Size)
     requires { ⌜ Sound (now payload) × SizeOf (now payload) size × (16384 ≤ length (now w)) ⌝ }
@@ -46,7 +46,7 @@ fn chain(payload: &[u8], w: &mut [u16], pairs: usize)
     let mut two = pairs / 2;
     while 0 < two {
         two -= 1;
-        let both = five_bytes(payload, 4 + 5 * two) as usize;
+        let both = two_entries(payload, two);
         link(payload, w, pairs, 2 * two + 1, both % 1048576);
         link(payload, w, pairs, 2 * two, both / 1048576);
     }
@@ -61,13 +61,13 @@ fn chain_odd(payload: &[u8], w: &mut [u16], pairs: usize)
         return;
     }
     let last = pairs - 1;
-    let entry = read(payload, 32 + 20 * last, 20) as usize;
+    let entry = entry_at(payload, last);
     link(payload, w, pairs, last, entry);
 }
 
 // Entry e, whose 20 bits are at hand, is put before the chain of its rank.
 fn link(payload: &[u8], w: &mut [u16], pairs: usize, e: usize, entry: usize)
-    requires { ⌜ Chained (now payload) pairs (e + 1) (now w) × (e < pairs) × (pairs ≤ 3000) × (entry ≡ fieldAt (now payload) (32 + 20 * e) 20) ⌝ }
+    requires { ⌜ Chained (now payload) pairs (e + 1) (now w) × (e < pairs) × (pairs ≤ 3000) × (entry ≡ entryBits (now payload) e) ⌝ }
     ensures { λ _. ⌜ Chained (now (payload .entry)) pairs e (now (w .exit)) × SameBut (Filled pairs 0) (now (w .exit)) (now (w .entry)) ⌝ }
 {
     let rank = entry % 16;

@@ -1,7 +1,7 @@
 -- Judging the entries: one law for each way through judging one entry alone, then what the loop keeps (Judging) and the laws that
 -- carry it on (judging-more) and end it (judging-stop, judging-last, judging-done). Leans on proofs/Parts for what the tests of
 -- one entry mean, and on proofs/Acceptance for what an answer 0 says of it.
-use Prim.Native.Nat.{ℕ, zero, suc, _+_, _*_, _/_, _%_, _≤_, _<_}
+use Prim.Native.Nat.{ℕ, zero, suc, _+_, _/_, _%_, _≤_, _<_}
 use mathlib.Core.Path.{_≡_, refl, ap, sym, _∙_}
 use mathlib.Core.Bool.{true, false}
 use mathlib.Core.List.{List}
@@ -9,12 +9,11 @@ use mathlib.Core.Logic.{⊎-elim}
 use native.Mathlib.Decide.{ℕ-discrete}
 use native.Mathlib.Numerals.{add-one}
 use native.Mathlib.Omega.{arith}
-use Rattle.fields.specs.Fields.{fieldAt}
 use Rattle.fields.proofs.Bits.{field-bound}
 use Rattle.table.specs.declared.Head.{Head}
 use Rattle.table.specs.declared.Checked.{Checked}
 use Rattle.table.specs.declared.Checked.the-variants.{NotInTable, NotAbove, Accepted}
-use Rattle.table.specs.Payload.{ranksIn, pairsIn, entryIn}
+use Rattle.table.specs.Payload.{ranksIn, pairsIn, entryBits, entryIn}
 use Rattle.table.specs.Checking.{headIn, strays, sinks, judgedAlone, keyOf, floorAt, goOn, judged, checkedNumber}
 use Rattle.table.proofs.Parts.{InTable, in-table-passes, strays-signal, strays-channel, strays-no-rank, strays-rank, channel-byte, above-passes, keys-ascend, keys-sink, head-pairs, EntryParts, entry-parts}
 use Rattle.table.proofs.Acceptance.{gone-on, accepted-alone}
@@ -35,12 +34,12 @@ sinks-so p zero l = absurd (omega arith)
 sinks-so p (suc i) l = rw (keys-sink (entryIn p i) (entryIn p (suc i)) (channel-byte p i) (omega arith))
 
 -- The 20 bits of entry i, read as one number x, are its key and then its rank.
-entry-key : (p : List ℕ) (i x : ℕ) → x ≡ fieldAt p (32 + 20 * i) 20 → x / 16 ≡ keyOf (entryIn p i)
+entry-key : (p : List ℕ) (i x : ℕ) → x ≡ entryBits p i → x / 16 ≡ keyOf (entryIn p i)
 entry-key p i x read = let parts = entry-parts p i x read in omega (arith, parts .signal, parts .channel)
 
 -- Entry i with the head, the least key that may stand there, and its 20 bits at hand
 module _ (p : List ℕ) (i : ℕ) {h : Head} {floor x : ℕ}
-    (known : (h ≡ headIn p) × (floor ≡ floorAt p i) × (x ≡ fieldAt p (32 + 20 * i) 20)) where
+    (known : (h ≡ headIn p) × (floor ≡ floorAt p i) × (x ≡ entryBits p i)) where
   is-head : h ≡ headIn p
   is-head = known .0
 
@@ -142,7 +141,7 @@ module _ {p : List ℕ} {h : Head} {floor i : ℕ} (so-far : Judging p h floor i
     judging-last last = let all : suc i ≡ pairsIn p = omega (arith, counted) in sym (rw all at so-now)
 
     -- or is not at fault. Its 20 bits say which key is the least that may come next.
-    pub judging-more : i < h .pairs .0 → checkedNumber r ≡ 0 → {x : ℕ} → x ≡ fieldAt p (32 + 20 * i) 20
+    pub judging-more : i < h .pairs .0 → checkedNumber r ≡ 0 → {x : ℕ} → x ≡ entryBits p i
         → Judging p h (x / 16 + 1) (i + 1)
     unfolding floorAt
     judging-more more passes {x} read =

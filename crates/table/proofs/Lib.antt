@@ -1,5 +1,6 @@
 -- Why checking answers as it should (Parts, Rows, Acceptance, Judging, Tight), and which table a payload holds: its entries (Ascending,
--- Entries), that it is the table of one payload only (OnePayload), and tables made from others (Cutting, Joining, Making).
+-- Entries), that it is the table of one payload only (OnePayload for lists of entries, Listing and OneTable for tables), and tables
+-- made from others (Cutting, Joining, Making).
 pub mod Parts
 pub mod Rows
 pub mod Acceptance
@@ -8,6 +9,8 @@ pub mod Tight
 pub mod Ascending
 pub mod Entries
 pub mod OnePayload
+pub mod Listing
+pub mod OneTable
 pub mod Cutting
 pub mod Joining
 pub mod Making

@@ -15,7 +15,7 @@ use Rattle.fields.specs.Fields.{fieldAt}
 use Rattle.fields.proofs.Bits.{field-bound, field-left, field-right}
 use Rattle.plans.specs.Tables.{Entry}
 use Rattle.table.specs.declared.Head.{Head}
-use Rattle.table.specs.Payload.{signalsIn, channelsIn, ranksIn, pairsIn, entryBit, entryIn}
+use Rattle.table.specs.Payload.{signalsIn, channelsIn, ranksIn, pairsIn, entryBit, entryBits, entryIn}
 use Rattle.table.specs.Checking.{headIn, strays, above, keyOf, Above}
 use Rattle.table.specs.Checking.Above.{by-signal, by-channel}
 
@@ -137,10 +137,10 @@ pub record EntryParts (p : List ℕ) (i x : ℕ) : Type 0 where
   pub channel : x / 16 % 256 ≡ entryIn p i .channel
   pub rank : x % 16 ≡ entryIn p i .rank
 
-pub entry-parts : (p : List ℕ) (i x : ℕ) → x ≡ fieldAt p (32 + 20 * i) 20 → EntryParts p i x
-unfolding entryIn entryBit
+pub entry-parts : (p : List ℕ) (i x : ℕ) → x ≡ entryBits p i → EntryParts p i x
+unfolding entryIn entryBits
 entry-parts p i x e =
-    let at = 32 + 20 * i in
+    let at = entryBit i in
     let key : x / 16 ≡ fieldAt p at 16 = rw e (field-left p at 16 4) in
     record {
       signal = rw key (field-left p at 8 8);
@@ -150,13 +150,25 @@ entry-parts p i x e =
 
 -- Two entries are five bytes, the one with the even index first.
 module _ (p : List ℕ) (two : ℕ) {x : ℕ} (read : x ≡ fieldAt p (8 * (4 + 5 * two)) 40) where
-  from-entry : x ≡ fieldAt p (32 + 20 * (2 * two)) 40
+  from-entry : x ≡ fieldAt p (entryBit (2 * two)) 40
+  unfolding entryBit
   from-entry = let bit : 8 * (4 + 5 * two) ≡ 32 + 20 * (2 * two) = omega arith in read ∙ ap (λ k. fieldAt p k 40) bit
 
-  pub even-entry : x / 1048576 ≡ fieldAt p (32 + 20 * (2 * two)) 20
-  even-entry = ap (λ (y : ℕ). y / 1048576) from-entry ∙ field-left p (32 + 20 * (2 * two)) 20 20
+  pub even-entry : x / 1048576 ≡ entryBits p (2 * two)
+  unfolding entryBits
+  even-entry = ap (λ (y : ℕ). y / 1048576) from-entry ∙ field-left p (entryBit (2 * two)) 20 20
 
-  pub odd-entry : x % 1048576 ≡ fieldAt p (32 + 20 * (2 * two + 1)) 20
+  pub odd-entry : x % 1048576 ≡ entryBits p (2 * two + 1)
+  unfolding entryBits entryBit
   odd-entry =
-      let bit : 32 + 20 * (2 * two) + 20 ≡ 32 + 20 * (2 * two + 1) = omega arith in
-      ap (λ (y : ℕ). y % 1048576) from-entry ∙ field-right p (32 + 20 * (2 * two)) 20 20 ∙ ap (λ k. fieldAt p k 20) bit
+      let bit : entryBit (2 * two) + 20 ≡ entryBit (2 * two + 1) = omega arith in
+      ap (λ (y : ℕ). y % 1048576) from-entry ∙ field-right p (entryBit (2 * two)) 20 20 ∙ ap (λ k. fieldAt p k 20) bit
+
+-- an entry's bits, read as a field, and how large they are
+pub entry-read : (p : List ℕ) (i : ℕ) {x : ℕ} → x ≡ fieldAt p (32 + 20 * i) 20 → x ≡ entryBits p i
+unfolding entryBits entryBit
+entry-read p i e = e
+
+pub entry-small : (p : List ℕ) (i : ℕ) {x : ℕ} → x ≡ entryBits p i → x < 1048576
+unfolding entryBits
+entry-small p i e = rw e (field-bound p (entryBit i) 20)

@@ -1,3 +1,4 @@
 pub mod Payload
 pub mod Checking
 pub mod Making
+pub mod Listing

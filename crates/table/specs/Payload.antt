@@ -1,4 +1,5 @@
--- Which table a payload holds (document 01, "The table, bit-packed, most significant bit first"). Every bit offset stands here once.
+-- Which table a payload holds (document 01, "The table, bit-packed, most significant bit first"): where each field stands, for
+-- reading, and the fields in order, for packing.
 use Prim.Native.Nat.{ℕ, zero, suc, _+_, _-_, _*_}
 use mathlib.Core.List.{List, [], _∷_, _++_}
 use lib.ListN.{length}
@@ -24,7 +25,7 @@ pairsIn p = fieldAt p 20 12
 unfoldable pub entryBit : ℕ → ℕ
 entryBit i = 32 + 20 * i
 
--- Entry i, 20 bits: signal (8), channel (8), rank (4).
+-- Entry i, 20 bits: signal (8), channel (8), rank (4); and all of them as one number.
 unfoldable pub entryIn : List ℕ → ℕ → Entry
 entryIn p i =
     record {
@@ -32,6 +33,9 @@ entryIn p i =
       channel = fieldAt p (entryBit i + 8) 8;
       rank = fieldAt p (entryBit i + 16) 4;
     }
+
+unfoldable pub entryBits : List ℕ → ℕ → ℕ
+entryBits p i = fieldAt p (entryBit i) 20
 
 -- the first n entries
 unfoldable pub entriesTo : List ℕ → ℕ → List Entry

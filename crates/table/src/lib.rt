@@ -1,9 +1,8 @@
 // Checking a bare payload: whether it is a table's, and which refusal it gets if not (rows 4 to 9). specs/Payload says which table a
 // payload holds, specs/Checking what checking answers for every byte string.
 ghost use mathlib.Core.Path.{_≡_};
-ghost use Prim.Native.Nat.{_+_, _*_};
-ghost use Rattle.fields.specs.Fields.{fieldAt};
-ghost use Rattle.table.specs.Payload.{pairsIn};
+ghost use Prim.Native.Nat.{_+_, _*_, _/_, _%_, _≤_};
+ghost use Rattle.table.specs.Payload.{pairsIn, entryBits};
 ghost use Rattle.table.specs.Checking.{headIn, floorAt, judgedAlone, judged, checkedOf, checkedNumber, checkedPlace, checkedHead};
 use units::Entries;
 
@@ -45,11 +44,28 @@ fn head_of(payload: &[u8]) -> Head
     }
 }
 
+// The 20 bits of entry i as one number: the signal, the channel, the rank.
+pub fn entry_at(payload: &[u8], i: usize) -> usize
+    requires { ⌜ i ≤ 65535 ⌝ }
+    ensures { λ r. ⌜ r ≡ entryBits (now (payload .entry)) i ⌝ }
+{
+    fields::read(payload, 32 + 20 * i, 20) as usize
+}
+
+// The entries 2 · two and 2 · two + 1 as one number of 40 bits. Before them stand the head and an even number of entries, so
+// they are five whole bytes.
+pub fn two_entries(payload: &[u8], two: usize) -> usize
+    requires { ⌜ two ≤ 32767 ⌝ }
+    ensures { λ r. ⌜ (r / 1048576 ≡ entryBits (now (payload .entry)) (2 * two)) × (r % 1048576 ≡ entryBits (now (payload .entry)) (2 * two + 1)) ⌝ }
+{
+    fields::five_bytes(payload, 4 + 5 * two) as usize
+}
+
 // Judges entry i alone (rows 8 and 9), with its 20 bits at hand. All but its rank is its key, 256 times the signal and the
 // channel, so entries ascend where their keys do; `floor` is the least key that may stand here. Rank 0 comes round to 15,
 // which is never below `ranks`.
 fn judge(payload: &[u8], head: Head, floor: usize, i: usize, entry: usize) -> Checked
-    requires { ⌜ (head ≡ headIn (now payload)) × (floor ≡ floorAt (now payload) i) × (entry ≡ fieldAt (now payload) (32 + 20 * i) 20) ⌝ }
+    requires { ⌜ (head ≡ headIn (now payload)) × (floor ≡ floorAt (now payload) i) × (entry ≡ entryBits (now payload) i) ⌝ }
     ensures { λ r. ⌜ r ≡ judgedAlone (now (payload .entry)) i ⌝ }
 {
     let key = entry / 16;
@@ -79,7 +95,7 @@ fn check_entries(payload: &[u8], head: Head) -> Checked
     let mut floor: usize = 0;
     let mut two = 0;
     while two < twos {
-        let both = fields::five_bytes(payload, 4 + 5 * two) as usize;
+        let both = two_entries(payload, two);
         let even = both / 1048576;
         let first = judge(payload, head, floor, 2 * two, even);
         if first.number() != 0 {
@@ -97,7 +113,7 @@ fn check_entries(payload: &[u8], head: Head) -> Checked
         return Checked::Accepted(head);
     }
     let last = pairs - 1;
-    let entry = fields::read(payload, 32 + 20 * last, 20) as usize;
+    let entry = entry_at(payload, last);
     judge(payload, head, floor, last, entry)
 }
 

@@ -97,6 +97,22 @@ fn two_pairs() {
     );
 }
 
+// Three pairs, with a fault in the last one, which is read by itself.
+fn three_pairs() {
+    see(
+        b"3 pairs, rank 0 in the last",
+        b"\x02\x02\x20\x03\x00\x00\x10\x00\x11\x01\x00\x00",
+    );
+    see(
+        b"3 pairs, the last two alike",
+        b"\x02\x02\x20\x03\x00\x00\x10\x00\x11\x00\x01\x10",
+    );
+    see(
+        b"3 pairs, the last two alike, fill dirty",
+        b"\x02\x02\x20\x03\x00\x00\x10\x00\x11\x00\x01\x11",
+    );
+}
+
 // Row 8, with two signals, two channels and two ranks.
 fn strays() {
     see(b"rank 0 in entry 0", b"\x02\x02\x20\x01\x00\x00\x00");
@@ -186,6 +202,7 @@ fn main() {
     heads();
     one_pair();
     two_pairs();
+    three_pairs();
     strays();
     order();
     many_pairs();

@@ -1,9 +1,6 @@
 -- `graupenzelt::handle` meets its contract: each return is one law of proofs/Deciding.
 use borrow.Author.Needs.{needs}
-use mathlib.Core.Path.{refl}
 use native.Mathlib.Omega.{arith}
-use denote.Ref.{now}
-use Rattle.block.proofs.Opened.{part}
 use Rattle.graupenzelt.proofs.Deciding.{handles-unopened, handles-unsound, handles-settled, sound-payload, its-size}
 use Rattle.graupenzelt.proofs.handle.Statement.{statement}
 use Rattle.graupenzelt.proofs.handle.Tie as tie
@@ -24,29 +21,8 @@ returns : tie.Need-returns
 returns c =
     handles-unopened _ _ _ (c .before .before .before .before .«open» .ensures) (c .before .before .before .number .ensures) (c .before .before .if1 .taken) (c .before .place .ensures) (c .refusal .ensures)
 
-start-requires : tie.Need-start-requires
-start-requires c κs = search needs
-
-length-requires : tie.Need-length-requires
-length-requires c κs = search needs
-
-add-end : tie.Need-add-end
-add-end c =
-    let o = c .before .before .before .before .before .«open» in
-    let p = part (now (c .before .before .before .before .before .before .before .before .before .args .block)) (o .result) (o .ensures) (c .before .before .start .ensures) (c .before .length .ensures) in
-    omega (arith, p .within)
-
-sub-payload : tie.Need-sub-payload
-sub-payload c = search needs
-
-part-payload-start : tie.Need-part-payload-start
-part-payload-start c = search needs
-
-part-payload-end : tie.Need-part-payload-end
-part-payload-end c =
-    let o = c .before .before .before .before .before .«open» in
-    let p = part (now (c .before .before .before .before .before .before .before .before .before .args .block)) (o .result) (o .ensures) (c .before .before .start .ensures) (c .before .length .ensures) in
-    omega (arith, p .within)
+payload-requires : tie.Need-payload-requires
+payload-requires c κs = search needs
 
 check-requires : tie.Need-check-requires
 check-requires c κs = search needs
@@ -62,9 +38,7 @@ refusal-requires-2 c κs = search needs
 
 returns-2 : tie.Need-returns-2
 returns-2 c =
-    let o = c .before .before .before .before .before .before .before .before .before .before .before .«open» in
-    let p = part (now (c .before .before .before .before .before .before .before .before .before .before .before .before .before .before .before .args .block)) (o .result) (o .ensures) (c .before .before .before .before .before .before .before .before .start .ensures) (c .before .before .before .before .before .before .before .length .ensures) in
-    handles-unsound _ _ _ (o .ensures) (c .before .before .before .before .before .before .before .before .before .before .number .ensures) (omega arith) _ (p .bytes _ refl) (c .before .before .before .before .check .ensures) (c .before .before .before .number2 .ensures)
+    handles-unsound _ _ _ (c .before .before .before .before .before .before .before .before .«open» .ensures) (c .before .before .before .before .before .before .before .number .ensures) (omega arith) _ (c .before .before .before .before .before .payload .ensures) (c .before .before .before .before .check .ensures) (c .before .before .before .number2 .ensures)
     (c .before .before .if2 .taken) (c .before .place2 .ensures) (c .refusal2 .ensures)
 
 head-requires : tie.Need-head-requires
@@ -89,9 +63,7 @@ same-length-2 c = search needs
 
 returns-3 : tie.Need-returns-3
 returns-3 c =
-    let o = c .before .before .before .before .before .before .before .before .before .before .before .before .before .before .before .before .before .before .«open» in
-    let p = part (now (c .before .before .before .before .before .before .before .before .before .before .before .before .before .before .before .before .before .before .before .before .before .before .args .block)) (o .result) (o .ensures) (c .before .before .before .before .before .before .before .before .before .before .before .before .before .before .before .start .ensures) (c .before .before .before .before .before .before .before .before .before .before .before .before .before .before .length .ensures) in
-    handles-settled _ _ _ (o .ensures) (c .before .before .before .before .before .before .before .before .before .before .before .before .before .before .before .before .before .number .ensures) (omega arith) _ (p .bytes _ refl) (c .before .before .before .before .before .before .before .before .before .before .before .check .ensures) (c .before .before .before .before .before .before .before .before .before .before .number2 .ensures)
+    handles-settled _ _ _ (c .before .before .before .before .before .before .before .before .before .before .before .before .before .before .before .«open» .ensures) (c .before .before .before .before .before .before .before .before .before .before .before .before .before .before .number .ensures) (omega arith) _ (c .before .before .before .before .before .before .before .before .before .before .before .before .payload .ensures) (c .before .before .before .before .before .before .before .before .before .before .before .check .ensures) (c .before .before .before .before .before .before .before .before .before .before .number2 .ensures)
     (omega arith) (c .before .before .before .before .settle .ensures)
 
 pub handle-spec : {M : Type 1} → statement M
@@ -103,12 +75,7 @@ handle-spec =
     place-requires
     refusal-requires
     returns
-    start-requires
-    length-requires
-    add-end
-    sub-payload
-    part-payload-start
-    part-payload-end
+    payload-requires
     check-requires
     number-requires-2
     place-requires-2

@@ -4,7 +4,6 @@ use Prim.Native.Nat.{_+_, _-_, _*_, _/_}
 use native.Mathlib.Omega.{arith}
 use mathlib.Core.Path.{refl}
 use denote.Ref.{now}
-use Rattle.table.proofs.Parts.{even-entry, odd-entry}
 use Rattle.table.proofs.Judging.{Judging, judging-none, judging-same, judging-done, judging-stop, judging-last, judging-more}
 use Rattle.table.proofs.check_entries.Statement.{statement}
 use Rattle.table.proofs.check_entries.Tie as tie
@@ -21,21 +20,15 @@ cast-pairs c = omega arith
 loop-holds : tie.Need-loop-holds Inv-loop μ-loop
 loop-holds c = judging-none (c .before .before .pre)
 
-mul-five-bytes : tie.Need-mul-five-bytes Inv-loop μ-loop
-mul-five-bytes c = omega arith
-
-add-five-bytes : tie.Need-add-five-bytes Inv-loop μ-loop
-add-five-bytes c = omega arith
-
-five-bytes-requires : tie.Need-five-bytes-requires Inv-loop μ-loop
-five-bytes-requires c κs = omega arith
+two-entries-requires : tie.Need-two-entries-requires Inv-loop μ-loop
+two-entries-requires c κs = omega arith
 
 mul-judge : tie.Need-mul-judge Inv-loop μ-loop
 mul-judge c = omega arith
 
 judge-requires : tie.Need-judge-requires Inv-loop μ-loop
 judge-requires c κs =
-    let so-far = c .before .before .loop .inv in (so-far .is-head, so-far .least, even-entry _ _ (c .five-bytes .ensures))
+    let so-far = c .before .before .loop .inv in (so-far .is-head, so-far .least, c .two-entries .ensures .0)
 
 number-requires : tie.Need-number-requires Inv-loop μ-loop
 number-requires c κs = tt
@@ -46,9 +39,9 @@ returns c = judging-stop (c .before .before .before .before .before .loop .inv) 
 -- the first of two is not at fault
 after-first : (c : tie.Else1 Inv-loop μ-loop)
     → Judging (now (c .before .before .before .before .before .before .before .before .args .payload)) (c .before .before .before .before .before .before .before .before .args .head)
-    (c .before .before .before .five-bytes .result / 1048576 / 16 + 1) (2 * c .before .before .before .before .before .loop .two + 1)
+    (c .before .before .before .two-entries .result / 1048576 / 16 + 1) (2 * c .before .before .before .before .before .loop .two + 1)
 after-first c =
-    judging-more (c .before .before .before .before .before .loop .inv) (c .before .before .judge .ensures) (omega arith) (omega arith) (even-entry _ _ (c .before .before .before .five-bytes .ensures))
+    judging-more (c .before .before .before .before .before .loop .inv) (c .before .before .judge .ensures) (omega arith) (omega arith) (c .before .before .before .two-entries .ensures .0)
 
 add-judge : tie.Need-add-judge Inv-loop μ-loop
 add-judge c = omega arith
@@ -61,7 +54,7 @@ add-judge-2 c = omega arith
 
 judge-requires-2 : tie.Need-judge-requires-2 Inv-loop μ-loop
 judge-requires-2 c κs =
-    (after-first c .is-head, omega (arith, after-first c .least), odd-entry _ _ (c .before .before .before .five-bytes .ensures))
+    (after-first c .is-head, omega (arith, after-first c .least), c .before .before .before .two-entries .ensures .1)
 
 number-requires-2 : tie.Need-number-requires-2 Inv-loop μ-loop
 number-requires-2 c κs = tt
@@ -81,7 +74,7 @@ loop-less c = omega arith
 loop-again : tie.Need-loop-again Inv-loop μ-loop
 loop-again c =
     judging-same (omega arith) (omega arith)
-    (judging-more (after-first (c .before .before .before)) (c .before .before .judge2 .ensures) (omega arith) (omega arith) (odd-entry _ _ (c .before .before .before .before .before .before .five-bytes .ensures)))
+    (judging-more (after-first (c .before .before .before)) (c .before .before .judge2 .ensures) (omega arith) (omega arith) (c .before .before .before .before .before .before .two-entries .ensures .1))
 
 returns-3 : tie.Need-returns-3 Inv-loop μ-loop
 returns-3 c = judging-done (c .before .before .loop .inv) (omega arith)
@@ -89,17 +82,8 @@ returns-3 c = judging-done (c .before .before .loop .inv) (omega arith)
 sub-last : tie.Need-sub-last Inv-loop μ-loop
 sub-last c = omega arith
 
-mul-read : tie.Need-mul-read Inv-loop μ-loop
-mul-read c = omega arith
-
-add-read : tie.Need-add-read Inv-loop μ-loop
-add-read c = omega arith
-
-read-requires : tie.Need-read-requires Inv-loop μ-loop
-read-requires c κs = omega arith
-
-cast-entry : tie.Need-cast-entry Inv-loop μ-loop
-cast-entry c = omega arith
+entry-at-requires : tie.Need-entry-at-requires Inv-loop μ-loop
+entry-at-requires c κs = omega arith
 
 -- only the last entry is left
 before-last : (c : tie.Else3 Inv-loop μ-loop)
@@ -107,7 +91,7 @@ before-last : (c : tie.Else3 Inv-loop μ-loop)
 before-last c = judging-same refl (omega arith) (c .before .before .loop .inv)
 
 judge-requires-3 : tie.Need-judge-requires-3 Inv-loop μ-loop
-judge-requires-3 c κs = let so-far = before-last (c .before) in (so-far .is-head, so-far .least, c .read .ensures)
+judge-requires-3 c κs = let so-far = before-last (c .before) in (so-far .is-head, so-far .least, c .entry-at .ensures)
 
 returns-4 : tie.Need-returns-4 Inv-loop μ-loop
 returns-4 c = judging-last (before-last (c .before .before)) (c .judge3 .ensures) (omega arith)
@@ -120,9 +104,7 @@ check-entries-spec =
     μ-loop
     cast-pairs
     loop-holds
-    mul-five-bytes
-    add-five-bytes
-    five-bytes-requires
+    two-entries-requires
     mul-judge
     judge-requires
     number-requires
@@ -139,9 +121,6 @@ check-entries-spec =
     loop-again
     returns-3
     sub-last
-    mul-read
-    add-read
-    read-requires
-    cast-entry
+    entry-at-requires
     judge-requires-3
     returns-4)

@@ -5,7 +5,6 @@ use mathlib.Core.Path.{_∙_}
 use Rattle.placer.specs.Work.{SameBut}
 use Rattle.placer.specs.Unpacking.{Filled, Chained}
 use Rattle.placer.proofs.Area.{but-refl, but-trans}
-use Rattle.table.proofs.Parts.{even-entry, odd-entry}
 use Rattle.placer.proofs.Links.{chained-at}
 use Rattle.placer.proofs.unpacking.chain.Statement.{statement}
 use Rattle.placer.proofs.unpacking.chain.Tie as tie
@@ -25,14 +24,8 @@ loop-holds c = (but-refl _, omega arith, c .before .before .chain-odd .ensures .
 sub-two : tie.Need-sub-two Inv-loop μ-loop
 sub-two c = omega arith
 
-mul-five-bytes : tie.Need-mul-five-bytes Inv-loop μ-loop
-mul-five-bytes c = omega arith
-
-add-five-bytes : tie.Need-add-five-bytes Inv-loop μ-loop
-add-five-bytes c = omega arith
-
-five-bytes-requires : tie.Need-five-bytes-requires Inv-loop μ-loop
-five-bytes-requires c κs = omega arith
+two-entries-requires : tie.Need-two-entries-requires Inv-loop μ-loop
+two-entries-requires c κs = omega arith
 
 mul-link : tie.Need-mul-link Inv-loop μ-loop
 mul-link c = omega arith
@@ -43,7 +36,7 @@ add-link c = omega arith
 link-requires : tie.Need-link-requires Inv-loop μ-loop
 link-requires c κs =
     let i = c .before .before .before .loop .inv in
-    let q = odd-entry _ _ (c .before .five-bytes .ensures) in
+    let q = c .before .two-entries .ensures .1 in
     (chained-at (omega arith) (i .2), omega arith, c .before .before .before .before .before .before .before .before .before .before .pre .1, omega arith)
 
 mul-link-2 : tie.Need-mul-link-2 Inv-loop μ-loop
@@ -51,7 +44,7 @@ mul-link-2 c = omega arith
 
 link-requires-2 : tie.Need-link-requires-2 Inv-loop μ-loop
 link-requires-2 c κs =
-    let q = even-entry _ _ (c .before .before .before .before .before .five-bytes .ensures) in
+    let q = c .before .before .before .before .before .two-entries .ensures .0 in
     (c .before .before .before .link .ensures .0, omega (arith, c .before .before .before .before .before .before .before .loop .inv .1), c .before .before .before .before .before .before .before .before .before .before .before .before .before .before .pre .1, omega arith)
 
 loop-less : tie.Need-loop-less Inv-loop μ-loop
@@ -77,9 +70,7 @@ chain-spec =
     chain-odd-requires
     loop-holds
     sub-two
-    mul-five-bytes
-    add-five-bytes
-    five-bytes-requires
+    two-entries-requires
     mul-link
     add-link
     link-requires

@@ -12,21 +12,12 @@ returns c = (chained-at (omega arith) (chained-none (c .before .before .before .
 sub-last : tie.Need-sub-last
 sub-last c = search needs
 
-mul-read : tie.Need-mul-read
-mul-read c = search needs
-
-add-read : tie.Need-add-read
-add-read c = search needs
-
-read-requires : tie.Need-read-requires
-read-requires c κs = search needs
-
-cast-entry : tie.Need-cast-entry
-cast-entry c = search needs
+entry-at-requires : tie.Need-entry-at-requires
+entry-at-requires c κs = search needs
 
 link-requires : tie.Need-link-requires
 link-requires c κs =
-    let n = c .before .before .before .before .before .pre in (chained-at (omega arith) (chained-none (n .0)), omega arith, n .1, c .before .read .ensures)
+    let n = c .before .before .before .before .before .pre in (chained-at (omega arith) (chained-none (n .0)), omega arith, n .1, c .before .entry-at .ensures)
 
 same-length : tie.Need-same-length
 same-length c = search needs
@@ -40,10 +31,7 @@ chain-odd-spec =
     (tie.spec
     returns
     sub-last
-    mul-read
-    add-read
-    read-requires
-    cast-entry
+    entry-at-requires
     link-requires
     same-length
     returns-2)

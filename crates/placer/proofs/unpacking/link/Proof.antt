@@ -2,7 +2,8 @@
 use borrow.Author.Needs.{needs}
 use Prim.Native.Nat.{_%_}
 use native.Mathlib.Omega.{arith}
-use Rattle.placer.proofs.Links.{entry-small, chained-more}
+use Rattle.table.proofs.Parts.{entry-small}
+use Rattle.placer.proofs.Links.{chained-more}
 use Rattle.placer.proofs.unpacking.link.Statement.{statement}
 use Rattle.placer.proofs.unpacking.link.Tie as tie
 
