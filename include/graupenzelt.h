@@ -1,5 +1,7 @@
 /* The box as a C library. docs/PROTOCOL.md says what blocks, tables and answers look like; docs/PROVED.md what is proved of these
-   functions. Every function takes any bytes and any lengths and always returns; none keeps a pointer, and none allocates.
+   functions. Every function takes any bytes and any lengths and always returns; none keeps a pointer, and none allocates. A pointer
+   must be valid for the length that goes with it; where that is 0 nothing is read or written through it, and it may be NULL. A command
+   takes up to 13 KiB of stack.
 
    Numbers: 0 success. Refusals, each given exactly when no earlier one applies:
      1  the input is empty or its first byte is not '#'
@@ -68,7 +70,8 @@ struct graupenzelt_handled {
 /* Opens a block (1 to 3). The payload is in[start .. start + length]. */
 struct graupenzelt_opened graupenzelt_open(const uint8_t *in, size_t n);
 
-/* Frames a payload of n bytes into an area of m bytes, behind the shortest header that counts its bytes (6, 10). */
+/* Frames a payload of n bytes into an area of m bytes, behind the shortest header that counts its bytes (6, 10). Payload and area must
+   not overlap. */
 struct graupenzelt_framed graupenzelt_frame(const uint8_t *payload, size_t n, uint8_t *area, size_t m);
 
 /* Checks a bare payload (4 to 9). */
@@ -78,7 +81,8 @@ struct graupenzelt_checked graupenzelt_check(const uint8_t *payload, size_t n);
 struct graupenzelt_compared graupenzelt_compare(const uint8_t *a, size_t n, const uint8_t *b, size_t m);
 
 /* Handles a whole command block (1 to 11): writes the answer block, with a best plan of the table and its counts, at the area's
-   start. On success the first 16,384 numbers of the work area are zero afterwards. The three areas must not overlap. */
+   start. On success the first 16,384 numbers of the work area are zero afterwards. The input, the area and the work area must not
+   overlap. */
 struct graupenzelt_handled graupenzelt_handle(const uint8_t *in, size_t n, uint8_t *area, size_t m, uint16_t *work, size_t k);
 
 #ifdef __cplusplus

@@ -36,11 +36,41 @@ pub struct Tally {
     pub numbers: BTreeMap<&'static str, [u64; 12]>,
 }
 
-/// What is being compared right now, for whoever waits for its end in vain.
+/// What is being compared right now, also for whoever waits for its end in vain.
 #[derive(Default)]
 pub struct Current {
     pub step: &'static str,
-    pub input: Vec<u8>,
+    input: Vec<u8>,
+    beside: Beside,
+}
+
+/// What a step is given beside its first input.
+#[derive(Default)]
+enum Beside {
+    #[default]
+    Nothing,
+    SecondLine(Vec<Count>),
+    Area {
+        bytes: usize,
+    },
+    Areas {
+        bytes: usize,
+        work_numbers: usize,
+    },
+}
+
+impl Display for Current {
+    fn fmt(&self, f: &mut std::fmt::Formatter<'_>) -> std::fmt::Result {
+        write!(f, "input {}", hex(&self.input))?;
+        match &self.beside {
+            Beside::Nothing => Ok(()),
+            Beside::SecondLine(line) => write!(f, "\nsecond line {}", hex(line)),
+            Beside::Area { bytes } => write!(f, "\narea of {bytes} bytes"),
+            Beside::Areas { bytes, work_numbers } => {
+                write!(f, "\narea of {bytes} bytes, work area of {work_numbers} numbers")
+            }
+        }
+    }
 }
 
 pub struct Comparer<'a> {
@@ -63,11 +93,17 @@ impl<'a> Comparer<'a> {
         }
     }
 
-    fn begin(&self, step: &'static str, input: &[u8]) {
+    fn begin(&self, step: &'static str, input: &[u8], beside: Beside) {
         let mut current = self.current.lock().expect("nobody fails while reading it");
         current.step = step;
         current.input.clear();
         current.input.extend_from_slice(input);
+        current.beside = beside;
+    }
+
+    fn found(&self, what: String) -> Box<Difference> {
+        let current = self.current.lock().expect("nobody fails while reading it");
+        Box::new(Difference { step: current.step, what, input: current.to_string() })
     }
 
     pub fn note(&mut self, group: &'static str, name: &'static str) {
@@ -87,17 +123,17 @@ impl<'a> Comparer<'a> {
     // ---- steps without lent memory ----
 
     pub fn open(&mut self, block: &[u8]) -> Outcome {
-        self.begin("open", block);
+        self.begin("open", block, Beside::Nothing);
         let expected = match codec::open(block) {
             Ok(part) => Opened { start: part.start, length: part.len(), ..Opened::default() },
             Err(refusal) => refusal.into(),
         };
         self.count("open", expected.number);
-        same(expected, self.subject.open(block)).map_err(|what| found("open", what, hex(block)))
+        same(expected, self.subject.open(block)).map_err(|what| self.found(what))
     }
 
     pub fn check(&mut self, payload: &[u8]) -> Outcome {
-        self.begin("check", payload);
+        self.begin("check", payload, Beside::Nothing);
         let expected = match codec::judge_payload(payload) {
             Ok(table) => Checked {
                 signals: table.signals.into(),
@@ -109,26 +145,23 @@ impl<'a> Comparer<'a> {
             Err(refusal) => refusal.into(),
         };
         self.count("check", expected.number);
-        same(expected, self.subject.check(payload))
-            .map_err(|what| found("check", what, hex(payload)))
+        same(expected, self.subject.check(payload)).map_err(|what| self.found(what))
     }
 
     pub fn compare(&mut self, first: &[Count], second: &[Count]) -> Outcome {
-        self.begin("compare", &[first, second].concat());
+        self.begin("compare", first, Beside::SecondLine(second.to_vec()));
         let expected = match codec::compare_lines(first, second) {
             Ok(order) => Compared { order, ..Compared::default() },
             Err(refusal) => refusal.into(),
         };
         self.count("compare", expected.number);
-        same(expected, self.subject.compare(first, second)).map_err(|what| {
-            found("compare", what, format!("first {}\nsecond {}", hex(first), hex(second)))
-        })
+        same(expected, self.subject.compare(first, second)).map_err(|what| self.found(what))
     }
 
     // ---- framing ----
 
     pub fn frame(&mut self, payload: &[u8], area_bytes: usize) -> Outcome {
-        self.begin("frame", payload);
+        self.begin("frame", payload, Beside::Area { bytes: area_bytes });
         let mut area = Lent::<u8>::new(area_bytes, self.next_pattern());
         let result = self.subject.frame(payload, area.part());
         let expected = codec::frame(payload, area_bytes);
@@ -139,15 +172,13 @@ impl<'a> Comparer<'a> {
                 .and_then(|()| untouched("area", &area, block.len())),
             Err(refusal) => same(refusal.into(), result).and_then(|()| untouched("area", &area, 0)),
         };
-        judged.map_err(|what| {
-            found("frame", what, format!("{}\narea of {area_bytes} bytes", hex(payload)))
-        })
+        judged.map_err(|what| self.found(what))
     }
 
     // ---- whole commands ----
 
     pub fn handle(&mut self, block: &[u8], area_bytes: usize, work_numbers: usize) -> Outcome {
-        self.begin("handle", block);
+        self.begin("handle", block, Beside::Areas { bytes: area_bytes, work_numbers });
         let mut area = Lent::<u8>::new(area_bytes, self.next_pattern());
         let mut work = Lent::<u16>::new(work_numbers, self.next_pattern());
         let result = self.subject.handle(block, area.part(), work.part());
@@ -163,10 +194,7 @@ impl<'a> Comparer<'a> {
                 .and_then(|()| untouched("area", &area, 0))
                 .and_then(|()| untouched("work area", &work, 0)),
         };
-        judged.map_err(|what| {
-            let lent = format!("area of {area_bytes} bytes, work area of {work_numbers} numbers");
-            found("handle", what, format!("{}\n{lent}", hex(block)))
-        })
+        judged.map_err(|what| self.found(what))
     }
 
     fn judge_answer_block(&mut self, table: &Table, block: &[u8]) -> Result<(), String> {
@@ -235,10 +263,6 @@ fn lists(table: &Table, signal: usize, seat: Seat) -> bool {
     found.is_ok_and(|entry| table.pairs[entry].rank == seat.rank)
 }
 
-fn found(step: &'static str, what: String, input: String) -> Box<Difference> {
-    Box::new(Difference { step, what, input: format!("input {input}") })
-}
-
 fn number_of<T>(expected: &Result<T, Refusal>) -> u32 {
     expected.as_ref().map_or_else(|refusal| refusal.number, |_| 0)
 }
@@ -275,7 +299,7 @@ fn zeroed(work: &[u16]) -> Result<(), String> {
     }
 }
 
-pub fn hex(bytes: &[u8]) -> String {
+fn hex(bytes: &[u8]) -> String {
     let mut text = format!("({} bytes)", bytes.len());
     for byte in bytes {
         write!(text, " {byte:02x}").expect("a string takes all text");

@@ -75,3 +75,18 @@ fn every_shape_is_found_by_its_name() {
         assert_eq!(Shape::named(shape.name).name, shape.name);
     }
 }
+
+/// It is printed where a step hangs or ends its process, and must be enough to do it again.
+#[test]
+fn what_is_being_compared_is_told_in_full() {
+    let mut comparer = Comparer::new(&StandIn);
+    let told = |comparer: &Comparer| comparer.current.lock().expect("nobody fails").to_string();
+    comparer.compare(&[1, 2], &[3]).expect("the stand-in is faultless");
+    assert_eq!(told(&comparer), "input (2 bytes) 01 02\nsecond line (1 bytes) 03");
+    comparer.frame(&[7], 9).expect("the stand-in is faultless");
+    assert_eq!(told(&comparer), "input (1 bytes) 07\narea of 9 bytes");
+    comparer.handle(b"#", 5, 6).expect("the stand-in is faultless");
+    assert_eq!(told(&comparer), "input (1 bytes) 23\narea of 5 bytes, work area of 6 numbers");
+    comparer.open(b"#").expect("the stand-in is faultless");
+    assert_eq!(told(&comparer), "input (1 bytes) 23");
+}

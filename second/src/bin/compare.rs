@@ -10,7 +10,7 @@ use std::thread;
 use std::time::{Duration, SystemTime, UNIX_EPOCH};
 
 use second::campaign;
-use second::comparer::{hex, Comparer, Current, Tally};
+use second::comparer::{Comparer, Current, Tally};
 use second::served::Served;
 use second::steps::{subject, Steps};
 
@@ -95,7 +95,7 @@ fn seed_from_clock() -> u64 {
 fn end_if_it_fails(current: Arc<Mutex<Current>>) {
     panic::set_hook(Box::new(move |failure| {
         if let Ok(current) = current.try_lock() {
-            println!("DIFFERENCE\n{}: {failure}\ninput {}", current.step, hex(&current.input));
+            println!("DIFFERENCE\n{}: {failure}\n{current}", current.step);
         } else {
             println!("DIFFERENCE\n{failure}");
         }
@@ -108,7 +108,7 @@ fn end_if_it_hangs(current: Arc<Mutex<Current>>, after: Duration) {
     thread::spawn(move || {
         thread::sleep(after);
         let current = current.lock().expect("nobody fails while writing it");
-        println!("DIFFERENCE\n{}: does not return\ninput {}", current.step, hex(&current.input));
+        println!("DIFFERENCE\n{}: does not return\n{current}", current.step);
         exit(1);
     });
 }
