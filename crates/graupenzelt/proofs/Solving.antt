@@ -22,7 +22,7 @@ use Rattle.placer.specs.Unpacking.{SizeOf, Unpacked}
 use Rattle.placer.proofs.Area.{same-input}
 use Rattle.placer.proofs.Holding.{rankOf, table-of-size, ranks-unpacked}
 use Rattle.placer.proofs.Tallies.{placeable-placed}
-use Rattle.placer.proofs.Best.{placed-best}
+use Rattle.placer.proofs.Best.{placed-from-best}
 use Rattle.answer.specs.Answer.{answerOf, answerLength}
 use Rattle.answer.specs.Writing.{Answerable, fieldsIn}
 use Rattle.answer.proofs.Answered.{answered}
@@ -45,7 +45,7 @@ module _ {p : List ℕ} {z : Size} (sound : Sound p) (size : SizeOf p z) where
     tallyable = (same-input (P .table) (U .input), P .mates, placeable-placed (U .input) ranks P)
 
     best : BestPlan (tableIn p) (places v)
-    best = rw (table-of-size p sound z size) at (placed-best z (rankOf p) v (P .placed (rankOf p) ranks))
+    best = rw (table-of-size p sound z size) at (placed-from-best ranks P)
 
     pub solved : {w : List ℕ} → Tallied z v w → Solved p z w
     solved {w} T =

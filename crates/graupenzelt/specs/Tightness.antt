@@ -1,8 +1,8 @@
 -- What two replies to one command, both as promised, have in common: all but the bytes of the places, since one table may have
--- several best plans.
+-- several best plans. And two commands to which no one plan is an answer (listingOnly).
 use Prim.Native.Nat.{ℕ, _+_}
 use mathlib.Core.Path.{_≡_}
-use mathlib.Core.List.{List}
+use mathlib.Core.List.{List, [], _∷_}
 use lib.ListN.{length, take, drop}
 use Rattle.block.specs.Framing.{headerLength}
 use Rattle.table.specs.Payload.{signalsIn, ranksIn}
@@ -24,3 +24,7 @@ pub record SameReply (p : List ℕ) (r : Reply) (a w : List ℕ) (r′ : Reply) 
   pub refused-bytes : (r .number ≡ 0 → ⊥) → a ≡ a′
   pub front : r .number ≡ 0 → take (placesStart p) a ≡ take (placesStart p) a′
   pub behind : drop (r .length) a ≡ drop (r .length) a′
+
+-- The command of a table with one signal, two channels and one rank: the signal lists channel c alone.
+abbrev pub listingOnly : ℕ → List ℕ
+listingOnly c = 0x23 ∷ 0x31 ∷ 0x37 ∷ 0x01 ∷ 0x02 ∷ 0x10 ∷ 0x01 ∷ 0x00 ∷ c ∷ 0x10 ∷ []

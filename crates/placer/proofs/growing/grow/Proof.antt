@@ -26,7 +26,7 @@ get-requires c κs =
 grow-from-requires : tie.Need-grow-from-requires Inv-loop μ-loop
 grow-from-requires c κs =
     let pre = c .before .before .before .before .before .before .before .pre in
-    grown-asks (c .before .before .before .before .before .loop .inv .1) (pre .0) (pre .1) (c .before .before .before .before .loop-test .taken) (sym (c .before .before .get .ensures .0) ∙ c .before .if1 .taken)
+    grown-asks (c .before .before .before .before .before .loop .inv .1) (pre .0) (pre .1) (c .before .before .before .before .loop-test .taken) (omega (arith, c .before .before .get .ensures .0, c .before .if1 .taken))
 
 add-root : tie.Need-add-root Inv-loop μ-loop
 add-root c = omega (arith, c .before .before .before .before .before .before .pre .0 .few-signals)

@@ -49,14 +49,14 @@ fresh : (c : tie.Then1 Inv-loop μ-loop Inv-reached μ-reached)
     (16384 ≤ length (o .loop .w)) × (c .before .before .before .get3 .result < 200) × (o .loop .tail < 200) × (o .before .before .before .before .before .reached .signal < 200))
 fresh c =
     let o = c .before .before .before .before .before .before in
-    queue-bounds (begun (start o)) (scanning o) (c .before .before .before .before .before .loop-test .taken) (c .before .before .before .get3 .ensures .0) (sym (c .before .get4 .ensures .0) ∙ c .if1 .taken)
+    queue-bounds (begun (start o)) (scanning o) (omega (arith, c .before .before .before .before .before .loop-test .taken)) (c .before .before .before .get3 .ensures .0) (sym (c .before .get4 .ensures .0) ∙ c .if1 .taken)
 
 -- and where the queue holds more
 more : (c : tie.Else3 Inv-loop μ-loop Inv-reached μ-reached)
     → (let o = c .before .before in
     let head = o .before .before .before .before .before .reached .head in
     (16384 ≤ length (o .loop .w)) × (head < o .loop .tail) × (o .loop .tail ≤ 200) × (at (o .loop .w) QUEUE head < 200))
-more c = next-bounds (begun (start (c .before .before))) (scanning (c .before .before)) (c .before .loop-test .left) (c .if3 .left)
+more c = next-bounds (begun (start (c .before .before))) (scanning (c .before .before)) (omega (arith, c .before .loop-test .left)) (c .if3 .left)
 
 reached-holds : tie.Need-reached-holds Inv-loop μ-loop Inv-reached μ-reached
 reached-holds c = λ z b. reaching-begins b
@@ -73,12 +73,12 @@ loop-holds c = λ z v b r. scanning-begins b r (c .before .before .get .ensures 
 get-requires-3 : tie.Need-get-requires-3 Inv-loop μ-loop Inv-reached μ-reached
 get-requires-3 c κs =
     let o = c .before .before in
-    omega (arith, place-bounds (begun (start o)) (scanning o) (c .before .loop-test .taken))
+    omega (arith, place-bounds (begun (start o)) (scanning o) (omega (arith, c .before .loop-test .taken)))
 
 get-requires-4 : tie.Need-get-requires-4 Inv-loop μ-loop Inv-reached μ-reached
 get-requires-4 c κs =
     let o = c .before .before .before .before in
-    omega (arith, channel-bounds (begun (start o)) (scanning o) (c .before .before .before .loop-test .taken) (c .before .get3 .ensures .0))
+    omega (arith, channel-bounds (begun (start o)) (scanning o) (omega (arith, c .before .before .before .loop-test .taken)) (c .before .get3 .ensures .0))
 
 put-requires : tie.Need-put-requires Inv-loop μ-loop Inv-reached μ-reached
 put-requires c κs = omega (arith, fresh (c .before))
@@ -106,15 +106,15 @@ loop-again c =
     let e = c .before .before .before .get3 .ensures .0 in
     let f = c .before .get4 .ensures .0 in
     ⊎-elim
-    (λ t. rw (t .12, t .13) (scanning-at (omega arith) (scanning-new b x l e (sym f ∙ t .0 .taken) (put-is (t .2 .ensures) (omega arith) (omega arith) (omega arith)) (put-is (t .6 .ensures) (omega arith) (omega arith) (omega arith)) (t .10 .ensures .0) (t .11 .left))))
-    (λ t. rw (t .1, t .2) (scanning-at (omega arith) (scanning-seen b x l e f (t .0 .left))))
+    (λ t. rw (t .12, t .13) (scanning-at (omega arith) (scanning-new b x (omega (arith, l)) e (sym f ∙ t .0 .taken) (put-is (t .2 .ensures) (omega arith) (omega arith) (omega arith)) (put-is (t .6 .ensures) (omega arith) (omega arith) (omega arith)) (t .10 .ensures .0) (t .11 .left))))
+    (λ t. rw (t .1, t .2) (scanning-at (omega arith) (scanning-seen b x (omega (arith, l)) e f (t .0 .left))))
     (c .if1 .came)
 
 same-length : tie.Need-same-length Inv-loop μ-loop Inv-reached μ-reached
 same-length c = scanning (c .before .before) .reaching .reached .frame .size
 
 returns : tie.Need-returns Inv-loop μ-loop Inv-reached μ-reached
-returns c = search-exhausted (begun (start (c .before .before))) (scanning (c .before .before)) (c .before .loop-test .left) (c .if3 .taken)
+returns c = search-exhausted (begun (start (c .before .before))) (scanning (c .before .before)) (omega (arith, c .before .loop-test .left)) (c .if3 .taken)
 
 get-requires-6 : tie.Need-get-requires-6 Inv-loop μ-loop Inv-reached μ-reached
 get-requires-6 c κs = omega (arith, more (c .before))
@@ -132,7 +132,7 @@ reached-again : tie.Need-reached-again Inv-loop μ-loop Inv-reached μ-reached
 reached-again c =
     λ z b.
     let o = c .before .before .before .before .before .before in
-    reaching-next b (o .loop .inv z _ b (o .before .before .before .before .before .reached .inv z b)) (c .before .before .before .before .before .loop-test .left) (c .before .before .before .before .if3 .left) (c .before .before .get6 .ensures .0) (c .get7 .ensures .0)
+    reaching-next b (o .loop .inv z _ b (o .before .before .before .before .before .reached .inv z b)) (omega (arith, c .before .before .before .before .before .loop-test .left)) (c .before .before .before .before .if3 .left) (c .before .before .get6 .ensures .0) (c .get7 .ensures .0)
 
 same-length-2 : tie.Need-same-length-2 Inv-loop μ-loop Inv-reached μ-reached
 same-length-2 c =
@@ -144,7 +144,7 @@ returns-2 : tie.Need-returns-2 Inv-loop μ-loop Inv-reached μ-reached
 returns-2 c =
     let t = c .before .before .before .before .before .before .before .before .before .before .before in
     let o = t .before .before .before .before .before .before in
-    search-found (begun (start o)) (scanning o) (t .before .before .before .before .before .loop-test .taken) (t .before .before .before .get3 .ensures .0) (sym (t .before .get4 .ensures .0) ∙ t .if1 .taken)
+    search-found (begun (start o)) (scanning o) (omega (arith, t .before .before .before .before .before .loop-test .taken)) (t .before .before .before .get3 .ensures .0) (sym (t .before .get4 .ensures .0) ∙ t .if1 .taken)
     (put-is (c .before .before .before .before .before .before .before .before .before .put .ensures) (omega arith) (omega arith) (omega arith)) (put-is (c .before .before .before .before .before .put2 .ensures) (omega arith) (omega arith) (omega arith)) (c .before .get5 .ensures .0) (c .if2 .taken)
 
 pub search-spec : {M : Type 1} → statement M
