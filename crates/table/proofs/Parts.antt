@@ -149,10 +149,10 @@ entry-parts p i x e =
     }
 
 -- Two entries are five bytes, the one with the even index first.
-module _ (p : List ℕ) (two : ℕ) {x : ℕ} (read : x ≡ fieldAt p (8 * (4 + 5 * two)) 40) where
+module _ (p : List ℕ) (two : ℕ) {x at : ℕ} (read : x ≡ fieldAt p (8 * at) 40) (place : at ≡ 4 + 5 * two) where
   from-entry : x ≡ fieldAt p (entryBit (2 * two)) 40
   unfolding entryBit
-  from-entry = let bit : 8 * (4 + 5 * two) ≡ 32 + 20 * (2 * two) = omega arith in read ∙ ap (λ k. fieldAt p k 40) bit
+  from-entry = let bit : 8 * at ≡ 32 + 20 * (2 * two) = omega arith in read ∙ ap (λ k. fieldAt p k 40) bit
 
   pub even-entry : x / 1048576 ≡ entryBits p (2 * two)
   unfolding entryBits
@@ -165,9 +165,9 @@ module _ (p : List ℕ) (two : ℕ) {x : ℕ} (read : x ≡ fieldAt p (8 * (4 + 
       ap (λ (y : ℕ). y % 1048576) from-entry ∙ field-right p (entryBit (2 * two)) 20 20 ∙ ap (λ k. fieldAt p k 20) bit
 
 -- an entry's bits, read as a field, and how large they are
-pub entry-read : (p : List ℕ) (i : ℕ) {x : ℕ} → x ≡ fieldAt p (32 + 20 * i) 20 → x ≡ entryBits p i
+pub entry-read : (p : List ℕ) (i : ℕ) {x at : ℕ} → x ≡ fieldAt p at 20 → at ≡ 32 + 20 * i → x ≡ entryBits p i
 unfolding entryBits entryBit
-entry-read p i e = e
+entry-read p i e place = e ∙ ap (λ k. fieldAt p k 20) place
 
 pub entry-small : (p : List ℕ) (i : ℕ) {x : ℕ} → x ≡ entryBits p i → x < 1048576
 unfolding entryBits

@@ -1,5 +1,6 @@
 -- `table::entry_at` meets its contract: the field that is read is the entry's.
 use borrow.Author.Needs.{needs}
+use native.Mathlib.Omega.{arith}
 use Rattle.table.proofs.Parts.{entry-read}
 use Rattle.table.proofs.entry_at.Statement.{statement}
 use Rattle.table.proofs.entry_at.Tie as tie
@@ -17,7 +18,7 @@ cast-result : tie.Need-cast-result
 cast-result c = search needs
 
 returns : tie.Need-returns
-returns c = entry-read _ _ (c .read .ensures)
+returns c = entry-read _ _ (c .read .ensures) (omega arith)
 
 pub entry-at-spec : {M : Type 1} → statement M
 entry-at-spec = tie.close (tie.spec mul-read add-read read-requires cast-result returns)

@@ -1,5 +1,6 @@
 -- `table::two_entries` meets its contract: two entries are five bytes (proofs/Parts).
 use borrow.Author.Needs.{needs}
+use native.Mathlib.Omega.{arith}
 use Rattle.table.proofs.Parts.{even-entry, odd-entry}
 use Rattle.table.proofs.two_entries.Statement.{statement}
 use Rattle.table.proofs.two_entries.Tie as tie
@@ -14,7 +15,7 @@ five-bytes-requires : tie.Need-five-bytes-requires
 five-bytes-requires c κs = search needs
 
 returns : tie.Need-returns
-returns c = let read = c .five-bytes .ensures in (even-entry _ _ read, odd-entry _ _ read)
+returns c = let read = c .five-bytes .ensures in (even-entry _ _ read (omega arith), odd-entry _ _ read (omega arith))
 
 pub two-entries-spec : {M : Type 1} → statement M
 two-entries-spec = tie.close (tie.spec mul-five-bytes add-five-bytes five-bytes-requires returns)

@@ -45,7 +45,7 @@ returns-6 : tie.Need-returns-6
 returns-6 c = sym (ap checkedHead (c .enum-told6 .given .1))
 
 returns-7 : tie.Need-returns-7
-returns-7 c = search needs
+returns-7 c = sym (ap checkedHead (c .before .self .given .1))
 
 pub head-spec : {M : Type 1} → statement M
 head-spec =
