@@ -1,7 +1,7 @@
 -- What the tests of one entry mean. Row 8: an entry is in the table or strays (in-table-passes, passed-in-table). Row 9: entries
 -- stand above one another where their keys ascend (above-passes, passed-above, keys-ascend, keys-sink). And the 32 bits of
 -- the head, the 20 bits of an entry and the 40 of two, read as one number, taken apart (head-parts, entry-parts, even-entry,
--- odd-entry).
+-- odd-entry); and where an entry's bits stand (entry-read).
 use Prim.Native.Nat.{ℕ, _+_, _*_, _/_, _%_, _≤_, _<_}
 use mathlib.Core.Path.{_≡_, refl, ap, _∙_}
 use mathlib.Core.Bool.{Bool, true, false, _&&_, and-false, false≢true}
