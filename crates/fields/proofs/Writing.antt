@@ -10,7 +10,7 @@ use lib.ListN.{length, getD, set, length-set}
 use lib.Pow.{pow-add, pow-mono, high, low, shr-lt, shr-shr, split}
 use lib.Arith.{digits-lt}
 use lib.Seq.{getD-set-same, getD-set-other}
-use Rattle.fields.specs.Fields.{bitAt, number, fieldAt, Puts, replaced}
+use Rattle.fields.specs.Fields.{bitAt, number, fieldAt, Puts, byteWith}
 use Rattle.fields.proofs.Reading.{low-below}
 use Rattle.fields.proofs.Bits.{field-split, field-bound, field-left, field-right, field-byte, fields-same, fields-determine}
 
@@ -52,18 +52,18 @@ module _ (b n r v : ℕ) (room : n + r ≤ 8) (is-byte : b < 256) (fits : v < 2 
 -- Of two strings, a + w + b bits of the second are those of the first with v in place of the w in the middle.
 module _ (s t : List ℕ) (at a w b v : ℕ) (fits : v < 2 ^ w)
     (whole : fieldAt t at (a + w + b) ≡ (fieldAt s at a * 2 ^ w + v) * 2 ^ b + fieldAt s (at + (a + w)) b) where
-  replaced-front : fieldAt t at (a + w) ≡ fieldAt s at a * 2 ^ w + v
-  replaced-front =
+  byteWith-front : fieldAt t at (a + w) ≡ fieldAt s at a * 2 ^ w + v
+  byteWith-front =
       sym (field-left t at (a + w) b) ∙ rw whole (high (fieldAt s at a * 2 ^ w + v) b (field-bound s (at + (a + w)) b))
 
-  replaced-left : fieldAt t at a ≡ fieldAt s at a
-  replaced-left = sym (field-left t at a w) ∙ rw replaced-front (high (fieldAt s at a) w fits)
+  byteWith-left : fieldAt t at a ≡ fieldAt s at a
+  byteWith-left = sym (field-left t at a w) ∙ rw byteWith-front (high (fieldAt s at a) w fits)
 
-  replaced-middle : fieldAt t (at + a) w ≡ v
-  replaced-middle = sym (field-right t at a w) ∙ rw replaced-front (low (fieldAt s at a) w fits)
+  byteWith-middle : fieldAt t (at + a) w ≡ v
+  byteWith-middle = sym (field-right t at a w) ∙ rw byteWith-front (low (fieldAt s at a) w fits)
 
-  replaced-right : fieldAt t (at + (a + w)) b ≡ fieldAt s (at + (a + w)) b
-  replaced-right =
+  byteWith-right : fieldAt t (at + (a + w)) b ≡ fieldAt s (at + (a + w)) b
+  byteWith-right =
       sym (field-right t at (a + w) b) ∙ rw whole (low (fieldAt s at a * 2 ^ w + v) b (field-bound s (at + (a + w)) b))
 
 other-byte : (s : List ℕ) (i x k : ℕ) → (k / 8 ≡ i → ⊥) → bitAt (set s i x) k ≡ bitAt s k
@@ -73,7 +73,7 @@ other-byte s i x k ne = rw (getD-set-other s i (k / 8) x 0 ne)
 -- Byte i with its n bits after the first a replaced by v.
 module _ (s : List ℕ) (i a n r v x : ℕ) (there : i < length s) (bytes : (k : ℕ) → getD s k 0 < 256) (parts : a + n + r ≡ 8)
     (fits : v < 2 ^ n) (is-byte : x < 256)
-    (new : x ≡ replaced (getD s i 0) n r v) where
+    (new : x ≡ byteWith (getD s i 0) n r v) where
   whole : fieldAt (set s i x) (8 * i) (a + n + r) ≡ (fieldAt s (8 * i) a * 2 ^ n + v) * 2 ^ r + fieldAt s (8 * i + (a + n)) r
   whole =
       let stored : getD (set s i x) i 0 ≡ x = getD-set-same s i x 0 there in
@@ -86,7 +86,7 @@ module _ (s : List ℕ) (i a n r v x : ℕ) (there : i < length s) (bytes : (k :
   byte-put =
       record {
         size = length-set s i x;
-        field = replaced-middle s (set s i x) (8 * i) a n r v fits whole;
+        field = byteWith-middle s (set s i x) (8 * i) a n r v fits whole;
         left = λ k l. pick-left k l (decLt k (8 * i));
         right = λ k l. pick-right k l (decLt k (8 * i + 8));
       }
@@ -94,11 +94,11 @@ module _ (s : List ℕ) (i a n r v x : ℕ) (there : i < length s) (bytes : (k :
       pick-left : (k : ℕ) → k < 8 * i + a → Dec (k < 8 * i) → bitAt (set s i x) k ≡ bitAt s k
       pick-left k l (yes h) = other-byte s i x k (λ e. omega arith)
       pick-left k l (no h) =
-          fields-determine (set s i x) s (8 * i) a (replaced-left s (set s i x) (8 * i) a n r v fits whole) k (omega arith) l
+          fields-determine (set s i x) s (8 * i) a (byteWith-left s (set s i x) (8 * i) a n r v fits whole) k (omega arith) l
 
       pick-right : (k : ℕ) → 8 * i + a + n ≤ k → Dec (k < 8 * i + 8) → bitAt (set s i x) k ≡ bitAt s k
       pick-right k l (yes h) =
-          fields-determine (set s i x) s (8 * i + (a + n)) r (replaced-right s (set s i x) (8 * i) a n r v fits whole) k
+          fields-determine (set s i x) s (8 * i + (a + n)) r (byteWith-right s (set s i x) (8 * i) a n r v fits whole) k
           (omega arith) (omega arith)
       pick-right k l (no h) = other-byte s i x k (λ e. omega arith)
 
@@ -149,7 +149,7 @@ writing-none s at width value fits =
 -- bits of the value to their right.
 pub writing-more : {s t : List ℕ} {at width value i room left : ℕ} (n right later bits x : ℕ) → Writing s at width value t i room left
     → 0 < left → at + width ≤ 8 * length s → n ≡ min room left → n + right ≡ room → n + later ≡ left
-    → ((k : ℕ) → getD t k 0 < 256) → bits ≡ value / 2 ^ later % 2 ^ n → x < 256 → x ≡ replaced (getD t i 0) n right bits
+    → ((k : ℕ) → getD t k 0 < 256) → bits ≡ value / 2 ^ later % 2 ^ n → x < 256 → x ≡ byteWith (getD t i 0) n right bits
     → Writing s at width value (set t i x) (i + 1) 8 (left - n)
 writing-more {s} {t} {at} {width} {value} {i} {room} {left} n right later bits x w more within least in-byte in-value bytes is-bits is-byte new =
     record {

@@ -26,8 +26,8 @@ pub record Puts (before : List ℕ) (at w v : ℕ) (after : List ℕ) : Type 0 w
   pub right : (k : ℕ) → at + w ≤ k → bitAt after k ≡ bitAt before k
 
 -- A byte b with the n bits that have r bits to their right replaced by v.
-abbrev pub replaced : ℕ → ℕ → ℕ → ℕ → ℕ
-replaced b n r v = (b / 2 ^ (n + r) * 2 ^ n + v) * 2 ^ r + b % 2 ^ r
+abbrev pub byteWith : ℕ → ℕ → ℕ → ℕ → ℕ
+byteWith b n r v = (b / 2 ^ (n + r) * 2 ^ n + v) * 2 ^ r + b % 2 ^ r
 
 -- A field to be packed: so many bits, and the number that they write.
 pub record Field : Type 0 where

@@ -4,7 +4,7 @@
 ghost use mathlib.Core.Path.{_≡_};
 ghost use Prim.Native.Nat.{_+_, _*_, _%_, _^_, _≤_, _<_, min};
 ghost use lib.ListN.{length, getD};
-ghost use Rattle.fields.specs.Fields.{fieldAt, Puts, replaced};
+ghost use Rattle.fields.specs.Fields.{fieldAt, Puts, byteWith};
 
 // The byte at i; past the end 0.
 fn byte_at(s: &[u8], i: usize) -> u8
@@ -59,7 +59,7 @@ pub fn read(s: &[u8], at: usize, width: usize) -> u32
 // A byte with the n bits that have `right` bits to their right replaced.
 fn put_in_byte(byte: u8, n: usize, right: usize, bits: u64) -> u8
     requires { ⌜ (n + right ≤ 8) × (bits < 2 ^ n) ⌝ }
-    ensures { λ r. ⌜ r ≡ replaced byte n right bits ⌝ }
+    ensures { λ r. ⌜ r ≡ byteWith byte n right bits ⌝ }
 {
     let old = byte as u64;
     let with_bits = (old >> (n + right) << n) + bits;

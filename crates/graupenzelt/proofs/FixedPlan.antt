@@ -12,7 +12,7 @@ use Rattle.fields.specs.Fields.{bitAt, number, fieldAt, bitsOf, allBits, bitsIn
 use Rattle.plans.specs.Numbers.{bit, same, under, sum}
 use Rattle.plans.specs.Plan.{Table, Places, BestPlan, placed, line}
 use Rattle.plans.specs.Tables.{pick, rankIn, tableOf}
-use Rattle.plans.specs.Rows.{at}
+use Rattle.plans.specs.Rows.{option}
 use Rattle.plans.proofs.Ways.{faults, plan-of-faults}
 use Rattle.plans.proofs.Rows.{by-computing}
 use Rattle.block.specs.Opening.{isDigit, digitsAt2, countAt2, from, countedOf, openingOf, openingNumber, payloadOf}
@@ -26,11 +26,11 @@ use Rattle.graupenzelt.specs.Tightness.{listingOnly}
 use Rattle.graupenzelt.proofs.Deciding.{accepted, room}
 
 abbrev listing : ℕ → Table
-listing c = tableOf 1 2 1 (at 0 c 1 ∷ [])
+listing c = tableOf 1 2 1 (option 0 c 1 ∷ [])
 
 -- A plan that puts the signal elsewhere, or nowhere, has the counts (0).
 elsewhere : (c : ℕ) (q : Places) → (q 0 ≡ c → ⊥) → line (listing c) q 0 ≡ 0
-unfolding line sum placed same under bit pick rankIn tableOf at
+unfolding line sum placed same under bit pick rankIn tableOf option
 elsewhere c q h = rw (ne-eqb c (q 0) (λ e. h (sym e))) (omega arith)
 
 -- What is computed of the command that lists channel c: it is accepted, its table is that one, and where the signal sits on c the

@@ -11,7 +11,7 @@ use Rattle.plans.specs.Order.{Less, Same, filled, Compared}
 use Rattle.plans.specs.Order.Compared.{lesser, equal, greater}
 use Rattle.plans.specs.Plan.{Table, Places, Plan, BestPlan, Best, placed, line, total}
 use Rattle.plans.specs.Tables.{tableOf}
-use Rattle.plans.specs.Rows.{Small, Agree, at, rowA, rowB, rowD, rows, table, placedBy, All}
+use Rattle.plans.specs.Rows.{Small, Agree, option, rowA, rowB, rowD, rows, table, placedBy, All}
 use Rattle.plans.specs.LooksGood.{lowest, serve, served, afterRank, firstCome, Largest, LargestFirst, score, chosenB, chosenD, FallsShort}
 use Rattle.plans.proofs.Sums.{sum-ext}
 use Rattle.plans.proofs.Order.{compare-lines, not-less-of-notMore}

@@ -10,8 +10,8 @@ use Rattle.plans.specs.Numbers.{bit, same, under, sum}
 use Rattle.plans.specs.Order.{Same, NotMore, filled}
 use Rattle.plans.specs.Plan.{Table, Places, Plan, BestPlan, Best, placed, load, line}
 use Rattle.plans.specs.Tables.{pick, rankIn, tableOf, cut, oneMore}
-use Rattle.plans.specs.Rows.{Small, Besides, Row, at, unplaced, rowA, rowB, rowD, rowE, rowF, rowG, rowH, rowI, rowJ, rowK, rows}
-use Rattle.plans.specs.Rows.{table, placesOf, planAt, Agree, OnlyBest, SameTable, placedBy, HoldsBesides, Holds, All}
+use Rattle.plans.specs.Rows.{Small, Besides, Row, option, unplaced, rowA, rowB, rowD, rowE, rowF, rowG, rowH, rowI, rowJ, rowK, rows}
+use Rattle.plans.specs.Rows.{table, placesOf, planAt, Agree, OnlyBest, SameTable, placedBy, HoldsBesides, RowHolds, All}
 use Rattle.plans.specs.Rows.Besides.{nothing, only, without-last, cut-at}
 use Rattle.plans.proofs.Sums.{sum-term, sum-zero}
 use Rattle.plans.proofs.BestCounts.{line-of-best}
@@ -176,7 +176,7 @@ holds-besides r (without-last whole more) h e = record { made = same-of-unlike _
 holds-besides r (cut-at k whole) h e =
     record { made = same-of-unlike _ _ (omega arith); first = same-of-unequal k (filled (r .counts)) (filled (whole .counts)) (omega arith) }
 
-holds : (r : Row) → test r ≡ 0 → Holds r
+holds : (r : Row) → test r ≡ 0 → RowHolds r
 unfolding test
 holds r h =
     record {
@@ -190,19 +190,19 @@ unfolding test
 tests [] = 0
 tests (r ∷ rs) = test r + tests rs
 
-all-hold : (rs : List Row) → tests rs ≡ 0 → All Holds rs
+all-hold : (rs : List Row) → tests rs ≡ 0 → All RowHolds rs
 unfolding tests All
 all-hold [] h = tt
 all-hold (r ∷ rs) h = (holds r (omega arith), all-hold rs (omega arith))
 
 -- What a test of a table that is written out computes through, named once.
 unfoldable pub by-computing : Unit {0}
-unfolding at unplaced rowA rowB rowD table tableOf rankIn pick placesOf planAt faults unequal exceeds over-plans ways away given line load placed sum same under bit
+unfolding option unplaced rowA rowB rowD table tableOf rankIn pick placesOf planAt faults unequal exceeds over-plans ways away given line load placed sum same under bit
 by-computing = tt
 
 rows-pass : tests rows ≡ 0
 unfolding tests rows rowE rowF rowG rowH rowI rowJ rowK cut oneMore placedBy unbest apart by-computing
 rows-pass = refl
 
-pub starred-rows : All Holds rows
+pub starred-rows : All RowHolds rows
 starred-rows = all-hold rows rows-pass

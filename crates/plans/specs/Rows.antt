@@ -1,5 +1,5 @@
 -- The ten starred rows of document 01, "Small tables and their best counts", one under the other as the document has them.
--- Holds says what a row claims; the whole claim is All Holds rows.
+-- RowHolds says what a row claims; the whole claim is All RowHolds rows.
 use Prim.Native.Nat.{ℕ, _+_, _<_}
 use mathlib.Core.Path.{_≡_}
 use mathlib.Core.List.{List, [], _∷_}
@@ -32,9 +32,9 @@ pub record Row : Type 0 where
   pub small : Small
   pub besides : Besides
 
--- the document's "s0: c1@2" is `at 0 1 2`
-unfoldable pub at : ℕ → ℕ → ℕ → Entry
-at s c r = record { signal = s; channel = c; rank = r }
+-- the document's "s0: c1@2" is `option 0 1 2`
+unfoldable pub option : ℕ → ℕ → ℕ → Entry
+option s c r = record { signal = s; channel = c; rank = r }
 
 -- a signal without a channel, in a plan that is written out
 unfoldable pub unplaced : ℕ
@@ -42,23 +42,23 @@ unplaced = 255
 
 -- s0: c0@1, c1@2; s1: c0@1
 unfoldable pub rowA : Small
-rowA = record { signals = 2; channels = 2; ranks = 2; entries = at 0 0 1 ∷ at 0 1 2 ∷ at 1 0 1 ∷ []; counts = 1 ∷ 1 ∷ [] }
+rowA = record { signals = 2; channels = 2; ranks = 2; entries = option 0 0 1 ∷ option 0 1 2 ∷ option 1 0 1 ∷ []; counts = 1 ∷ 1 ∷ [] }
 
 -- s0: c0@1, c1@2; s1: c0@2
 unfoldable pub rowB : Small
-rowB = record { signals = 2; channels = 2; ranks = 3; entries = at 0 0 1 ∷ at 0 1 2 ∷ at 1 0 2 ∷ []; counts = 1 ∷ 0 ∷ 0 ∷ [] }
+rowB = record { signals = 2; channels = 2; ranks = 3; entries = option 0 0 1 ∷ option 0 1 2 ∷ option 1 0 2 ∷ []; counts = 1 ∷ 0 ∷ 0 ∷ [] }
 
 -- s0: c0@1, c1@1; s1: c0@2; s2: c1@2
 unfoldable pub rowD : Small
-rowD = record { signals = 3; channels = 2; ranks = 2; entries = at 0 0 1 ∷ at 0 1 1 ∷ at 1 0 2 ∷ at 2 1 2 ∷ []; counts = 1 ∷ 1 ∷ [] }
+rowD = record { signals = 3; channels = 2; ranks = 2; entries = option 0 0 1 ∷ option 0 1 1 ∷ option 1 0 2 ∷ option 2 1 2 ∷ []; counts = 1 ∷ 1 ∷ [] }
 
 -- s0: c0@1, c1@1; s1: c0@1; s2: c1@2
 unfoldable pub rowE : Small
-rowE = record { signals = 3; channels = 2; ranks = 2; entries = at 0 0 1 ∷ at 0 1 1 ∷ at 1 0 1 ∷ at 2 1 2 ∷ []; counts = 2 ∷ 0 ∷ [] }
+rowE = record { signals = 3; channels = 2; ranks = 2; entries = option 0 0 1 ∷ option 0 1 1 ∷ option 1 0 1 ∷ option 2 1 2 ∷ []; counts = 2 ∷ 0 ∷ [] }
 
 -- s0: c0@3
 unfoldable pub rowF : Small
-rowF = record { signals = 1; channels = 1; ranks = 3; entries = at 0 0 3 ∷ []; counts = 0 ∷ 0 ∷ 1 ∷ [] }
+rowF = record { signals = 1; channels = 1; ranks = 3; entries = option 0 0 3 ∷ []; counts = 0 ∷ 0 ∷ 1 ∷ [] }
 
 -- no signals
 unfoldable pub rowG : Small
@@ -70,15 +70,15 @@ rowH = record { signals = 1; channels = 1; ranks = 0; entries = []; counts = [] 
 
 -- A without s1; it keeps A's channels
 unfoldable pub rowI : Small
-rowI = record { signals = 1; channels = 2; ranks = 2; entries = at 0 0 1 ∷ at 0 1 2 ∷ []; counts = 1 ∷ 0 ∷ [] }
+rowI = record { signals = 1; channels = 2; ranks = 2; entries = option 0 0 1 ∷ option 0 1 2 ∷ []; counts = 1 ∷ 0 ∷ [] }
 
 -- B without s1; it keeps B's channels
 unfoldable pub rowJ : Small
-rowJ = record { signals = 1; channels = 2; ranks = 3; entries = at 0 0 1 ∷ at 0 1 2 ∷ []; counts = 1 ∷ 0 ∷ 0 ∷ [] }
+rowJ = record { signals = 1; channels = 2; ranks = 3; entries = option 0 0 1 ∷ option 0 1 2 ∷ []; counts = 1 ∷ 0 ∷ 0 ∷ [] }
 
 -- A cut at rank 1; it keeps A's signals and channels
 unfoldable pub rowK : Small
-rowK = record { signals = 2; channels = 2; ranks = 1; entries = at 0 0 1 ∷ at 1 0 1 ∷ []; counts = 1 ∷ [] }
+rowK = record { signals = 2; channels = 2; ranks = 1; entries = option 0 0 1 ∷ option 1 0 1 ∷ []; counts = 1 ∷ [] }
 
 -- The list. A: only s0 on c1 and s1 on c0. D: two plans. I: A without s1, A adds one. J: B without s1, B adds none. K: A cut at rank 1.
 unfoldable pub rows : List Row
@@ -150,7 +150,7 @@ HoldsBesides r (without-last whole more) = WithoutLast whole r more
 HoldsBesides r (cut-at k whole) = CutAt k whole r
 
 -- A row holds: it has a count for each rank, they are the best counts of its table, and what it says besides is so.
-pub record Holds (r : Row) : Type 0 where
+pub record RowHolds (r : Row) : Type 0 where
   pub long : length (r .small .counts) ≡ r .small .ranks
   pub best : Best (table (r .small)) (filled (r .small .counts))
   pub besides : HoldsBesides (r .small) (r .besides)
