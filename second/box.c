@@ -15,15 +15,17 @@ struct request {
     uint64_t work; /* 16-bit numbers */
 };
 
-/* An answer: the result's fields, whether anything beside the areas was touched, then the area and the work area. */
+/* An answer: the result's fields, the first guard that was touched, then the area and the work area. */
 struct answer {
     uint64_t number;
     uint64_t place;
     uint64_t fields[4];
-    uint64_t touched;
+    uint64_t touched; /* src/served.rs has words for each */
 };
 
-static uint8_t in[MOST], other[MOST], in_before[MOST];
+/* All that is lent stands between two margins. Of an input each byte is a guard too, for nothing may be written there. */
+static uint8_t in[MOST + 2 * MARGIN], in_before[MOST];
+static uint8_t other[MOST + 2 * MARGIN], other_before[MOST];
 static uint8_t area[MOST + 2 * MARGIN];
 static uint16_t work[MOST + 2 * MARGIN];
 
@@ -75,27 +77,54 @@ static void put(const void *from, size_t n)
     }
 }
 
-static void guard(const struct request *q)
+/* Bytes that must stay: a margin, all GUARD, or an input, as it was before. */
+struct guard {
+    uint8_t *at;
+    size_t n;
+    uint8_t *before; /* NULL for a margin */
+};
+
+struct guards {
+    struct guard all[10];
+};
+
+static struct guards guards(const struct request *q)
 {
-    memset(area, GUARD, MARGIN);
-    memset(area + MARGIN + q->area, GUARD, MARGIN);
-    memset(work, GUARD, sizeof work[0] * MARGIN);
-    memset(work + MARGIN + q->work, GUARD, sizeof work[0] * MARGIN);
-    memcpy(in_before, in, q->in);
+    const size_t wide = sizeof work[0] * MARGIN;
+    return (struct guards){{
+        {in, MARGIN, NULL},
+        {in + MARGIN, q->in, in_before},
+        {in + MARGIN + q->in, MARGIN, NULL},
+        {other, MARGIN, NULL},
+        {other + MARGIN, q->other, other_before},
+        {other + MARGIN + q->other, MARGIN, NULL},
+        {area, MARGIN, NULL},
+        {area + MARGIN + q->area, MARGIN, NULL},
+        {(uint8_t *)work, wide, NULL},
+        {(uint8_t *)(work + MARGIN + q->work), wide, NULL},
+    }};
 }
 
-static uint64_t touched(const struct request *q)
+static void set(const struct guards *g)
 {
-    const uint8_t *w = (const uint8_t *)work, *behind = (const uint8_t *)(work + MARGIN + q->work);
-    for (size_t i = 0; i < MARGIN; i++)
-        if (area[i] != GUARD || area[MARGIN + q->area + i] != GUARD)
-            return 1;
-    for (size_t i = 0; i < sizeof work[0] * MARGIN; i++)
-        if (w[i] != GUARD || behind[i] != GUARD)
-            return 1;
-    for (size_t i = 0; i < q->in; i++)
-        if (in[i] != in_before[i])
-            return 1;
+    for (size_t k = 0; k < sizeof g->all / sizeof g->all[0]; k++) {
+        const struct guard *one = &g->all[k];
+        if (one->before)
+            memcpy(one->before, one->at, one->n);
+        else
+            memset(one->at, GUARD, one->n);
+    }
+}
+
+/* The first guard that was touched, counted from 1; 0 where none was. */
+static uint64_t touched(const struct guards *g)
+{
+    for (size_t k = 0; k < sizeof g->all / sizeof g->all[0]; k++) {
+        const struct guard *one = &g->all[k];
+        for (size_t i = 0; i < one->n; i++)
+            if (one->at[i] != (one->before ? one->before[i] : GUARD))
+                return k + 1;
+    }
     return 0;
 }
 
@@ -103,19 +132,19 @@ static struct answer call(const struct request *q)
 {
     struct answer a = {0, 0, {0, 0, 0, 0}, 0};
     if (q->step == 'o') {
-        struct graupenzelt_opened r = graupenzelt_open(in, q->in);
+        struct graupenzelt_opened r = graupenzelt_open(in + MARGIN, q->in);
         a = (struct answer){r.number, r.place, {r.start, r.length, 0, 0}, 0};
     } else if (q->step == 'f') {
-        struct graupenzelt_framed r = graupenzelt_frame(in, q->in, area + MARGIN, q->area);
+        struct graupenzelt_framed r = graupenzelt_frame(in + MARGIN, q->in, area + MARGIN, q->area);
         a = (struct answer){r.number, r.place, {r.length, 0, 0, 0}, 0};
     } else if (q->step == 'c') {
-        struct graupenzelt_checked r = graupenzelt_check(in, q->in);
+        struct graupenzelt_checked r = graupenzelt_check(in + MARGIN, q->in);
         a = (struct answer){r.number, r.place, {r.signals, r.channels, r.ranks, r.pairs}, 0};
     } else if (q->step == 'l') {
-        struct graupenzelt_compared r = graupenzelt_compare(in, q->in, other, q->other);
+        struct graupenzelt_compared r = graupenzelt_compare(in + MARGIN, q->in, other + MARGIN, q->other);
         a = (struct answer){r.number, r.place, {(uint64_t)(int64_t)r.order, 0, 0, 0}, 0};
     } else if (q->step == 'h') {
-        struct graupenzelt_handled r = graupenzelt_handle(in, q->in, area + MARGIN, q->area, work + MARGIN, q->work);
+        struct graupenzelt_handled r = graupenzelt_handle(in + MARGIN, q->in, area + MARGIN, q->area, work + MARGIN, q->work);
         a = (struct answer){r.number, r.place, {r.length, 0, 0, 0}, 0};
     } else {
         leave(2);
@@ -131,13 +160,14 @@ __attribute__((force_align_arg_pointer)) void _start(void)
         get(&q, sizeof q, 1);
         if (q.in > MOST || q.other > MOST || q.area > MOST || q.work > MOST)
             leave(2);
-        get(in, q.in, 0);
-        get(other, q.other, 0);
+        get(in + MARGIN, q.in, 0);
+        get(other + MARGIN, q.other, 0);
         get(area + MARGIN, q.area, 0);
         get(work + MARGIN, sizeof work[0] * q.work, 0);
-        guard(&q);
+        const struct guards g = guards(&q);
+        set(&g);
         struct answer a = call(&q);
-        a.touched = touched(&q);
+        a.touched = touched(&g);
         put(&a, sizeof a);
         put(area + MARGIN, q.area);
         put(work + MARGIN, sizeof work[0] * q.work);

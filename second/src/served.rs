@@ -1,6 +1,7 @@
 //! The library in a process of its own, behind two pipes: `box.c` says what goes over them.
 //!
-//! So the archive, which is for x86-64, is compared on any machine that can run it at all.
+//! So the archive, which is for x86-64, is compared on any machine that can run it at all. The process never outlives its `Served`,
+//! and whoever ends the whole program calls `end` before: a process that hangs in a step would not see that its pipes are closed.
 
 use std::io::{self, Read, Write};
 use std::process::{Child, ChildStdin, ChildStdout, Command, Stdio};
@@ -9,15 +10,29 @@ use std::sync::Mutex;
 use crate::steps::{Checked, Compared, Count, Opened, Steps, Written};
 
 pub struct Served {
-    process: Mutex<Process>,
+    pipes: Mutex<Pipes>,
+    // Beside the pipes, so that it can be ended while somebody waits for an answer.
+    child: Mutex<Child>,
 }
 
-struct Process {
-    // Held so that the process lives as long as its pipes.
-    _child: Child,
+struct Pipes {
     requests: ChildStdin,
     answers: ChildStdout,
 }
+
+/// What the guards of `box.c` watch over, in its order.
+const GUARDED: [&str; 10] = [
+    "before the input",
+    "in the input",
+    "behind the input",
+    "before the second input",
+    "in the second input",
+    "behind the second input",
+    "before the area",
+    "behind the area",
+    "before the work area",
+    "behind the work area",
+];
 
 /// The result's fields, in the order of the C struct.
 struct Answer {
@@ -38,7 +53,15 @@ impl Served {
             .spawn()?;
         let requests = child.stdin.take().ok_or_else(|| io::Error::other("no pipe to it"))?;
         let answers = child.stdout.take().ok_or_else(|| io::Error::other("no pipe from it"))?;
-        Ok(Served { process: Mutex::new(Process { _child: child, requests, answers }) })
+        Ok(Served { pipes: Mutex::new(Pipes { requests, answers }), child: Mutex::new(child) })
+    }
+
+    /// Ends the process, whatever it is doing.
+    pub fn end(&self) {
+        let mut child = self.child.lock().expect("nobody fails while ending it");
+        // Only a process that has ended already is not there to be ended.
+        let _ = child.kill();
+        let _ = child.wait();
     }
 
     fn ask(
@@ -49,14 +72,20 @@ impl Served {
         area: &mut [u8],
         work: &mut [u16],
     ) -> Answer {
-        let mut process = self.process.lock().expect("nobody fails while asking");
-        process
+        let mut pipes = self.pipes.lock().expect("nobody fails while asking");
+        pipes
             .ask(step, input, other, area, work)
             .unwrap_or_else(|error| panic!("the library's process failed: {error}"))
     }
 }
 
-impl Process {
+impl Drop for Served {
+    fn drop(&mut self) {
+        self.end();
+    }
+}
+
+impl Pipes {
     fn ask(
         &mut self,
         step: u8,
@@ -87,7 +116,8 @@ impl Process {
         }
         let [number, place, a, b, c, d, touched] = result;
         if touched != 0 {
-            return Err(io::Error::other("something beside the lent areas was touched"));
+            let guarded = GUARDED.get(touched as usize - 1).unwrap_or(&"somewhere");
+            return Err(io::Error::other(format!("it wrote {guarded}")));
         }
         Ok(Answer { number: number as u32, place: place as usize, fields: [a, b, c, d] })
     }

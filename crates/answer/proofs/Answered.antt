@@ -1,85 +1,54 @@
--- What a tallied area says of its plan: the fields that are read off it are the answer's (answer-fields), and they fit
--- (answerable); in the terms of a caller who placed and tallied, answered. Leans on placer's promises.
+-- What a caller needs who has the counts and places of a plan: they can be written (plan-fits), and what is written is the answer of
+-- the table and its plan (plan-fields); both as one law, written-answer. Leans on specs/Writing and proofs/Bytes.
 use Prim.Native.Nat.{ℕ, _≤_, _<_}
 use mathlib.Core.Path.{_≡_, refl, ap}
 use mathlib.Core.List.{List}
-use native.Mathlib.Decide.{ℕ-discrete}
 use native.Mathlib.Omega.{arith}
 use borrow.Author.Tests.{lt-ltb, le-ltb}
 use Rattle.fields.specs.Fields.{packed}
-use Rattle.plans.specs.Plan.{Plan, line}
+use Rattle.plans.specs.Plan.{Table, Places, Plan, line}
+use Rattle.plans.specs.Order.{filled}
 use Rattle.plans.specs.Tables.{pick}
 use Rattle.plans.proofs.Sums.{by-under}
-use Rattle.placer.specs.declared.Size.{Size}
-use Rattle.placer.specs.Work.{at, none, CHANNEL, RANK, COUNT}
-use Rattle.placer.specs.State.{Input, Mates}
-use Rattle.placer.specs.Placing.{tableWith, places, Ranks, PlacedFrom, Tallied}
-use Rattle.placer.proofs.Area.{same-at, same-input}
-use Rattle.placer.proofs.Standing.{same-ranks}
+use Rattle.units.specs.Limits.{mostSignals, mostChannels, mostRanks}
 use Rattle.answer.specs.Answer.{payloadFields, channelFor, rankFor, placeFor, answerFields, answerOf}
-use Rattle.answer.specs.Writing.{Answerable, placeIn, fieldsIn}
+use Rattle.answer.specs.Writing.{Answerable, fieldsOf, Tells}
 use Rattle.answer.proofs.Bytes.{row-ext}
 use Rattle.answer.proofs.Reading.{line-most}
 
--- v is the area with the plan, w the tallied one.
-module _ {z : Size} {rank : ℕ → ℕ → ℕ} {v w : List ℕ} (n : Input z v) (m : Mates z v) (R : Ranks z rank v)
-    (P : Plan (tableWith z rank) (places v)) (T : Tallied z v w) where
-  sits : (s : ℕ) → s < z .signals → at w CHANNEL s ≡ at v CHANNEL s
-  sits s l = same-at (T .below) CHANNEL s (omega arith) (omega (arith, n .few-signals))
+-- A place of a plan has 12 bits.
+place-most : {T : Table} {p : Places} → Plan T p → T .channels ≤ mostChannels → T .ranks ≤ mostRanks
+    → (s : ℕ) → s < T .signals → placeFor T p s < 4096
+unfolding channelFor rankFor pick
+place-most {T} {p} P few-channels few-ranks s l =
+    by-under (p s) (T .channels)
+    (λ h one. rw (lt-ltb (p s) (T .channels) h) (omega (arith, P .ranked s l h)))
+    (λ h nought. rw (le-ltb (p s) (T .channels) h) (omega arith))
 
-  -- who sits on no channel is marked as free
-  free : (s : ℕ) → s < z .signals → z .channels ≤ at v CHANNEL s → at v CHANNEL s ≡ none
-  free s l h = pick-free (ℕ-discrete (at v CHANNEL s) none)
-    where
-      pick-free : Dec (at v CHANNEL s ≡ none) → at v CHANNEL s ≡ none
-      pick-free (yes e) = e
-      pick-free (no e) = absurd (omega (arith, m .placed s l e))
-
-  place-is : (s : ℕ) → s < z .signals → placeIn w s ≡ placeFor (tableWith z rank) (places v) s
-  unfolding channelFor rankFor pick
-  place-is s l =
-      by-under (at v CHANNEL s) (z .channels)
-      (λ h one. rw (lt-ltb (at v CHANNEL s) (z .channels) h, sits s l, T .rank rank R s l h) refl)
-      (λ h nought. rw (le-ltb (at v CHANNEL s) (z .channels) h, sits s l, T .unranked s l (free s l h), free s l h) refl)
-
-  pub answer-fields : fieldsIn z w ≡ answerFields (tableWith z rank) (places v)
-  unfolding fieldsIn answerFields payloadFields
-  answer-fields =
+module _ {T : Table} {p : Places} {counts places : List ℕ} (told : Tells T p counts places) where
+  plan-fields : fieldsOf counts places ≡ answerFields T p
+  unfolding fieldsOf answerFields payloadFields
+  plan-fields =
       rw (
-        row-ext 8 (at w COUNT) (line (tableWith z rank) (places v)) (z .ranks) (T .counts rank R),
-        row-ext 12 (placeIn w) (placeFor (tableWith z rank) (places v)) (z .signals) place-is,
+        told .ranks,
+        told .signals,
+        row-ext 8 (filled counts) (line T p) (T .ranks) (told .count),
+        row-ext 12 (filled places) (placeFor T p) (T .signals) (told .place),
       )
       refl
 
-  rank-most : (s : ℕ) → s < z .signals → at w RANK s < 16
-  rank-most s l =
-      by-under (at v CHANNEL s) (z .channels)
-      (λ h one. omega (arith, T .rank rank R s l h, P .ranked s l h, n .few-ranks))
-      (λ h nought. omega (arith, T .unranked s l (free s l h)))
+  module _ (P : Plan T p) (few-signals : T .signals ≤ mostSignals) (few-channels : T .channels ≤ mostChannels)
+      (few-ranks : T .ranks ≤ mostRanks) where
+    plan-fits : Answerable counts places
+    plan-fits =
+        record {
+          few-ranks = omega (arith, told .ranks);
+          few-signals = omega (arith, told .signals);
+          counts-fit = record { each = λ i l. let k : i < T .ranks = omega (arith, told .ranks) in omega (arith, told .count i k, line-most T p i) };
+          places-fit = record { each = λ s l. let k : s < T .signals = omega (arith, told .signals) in rw (told .place s k) (place-most P few-channels few-ranks s k) };
+        }
 
-  channel-most : (s : ℕ) → s < z .signals → at w CHANNEL s < 256
-  channel-most s l =
-      by-under (at v CHANNEL s) (z .channels)
-      (λ h one. omega (arith, sits s l, n .few-channels))
-      (λ h nought. omega (arith, sits s l, free s l h))
-
-  pub answerable : Answerable z w
-  answerable =
-      record {
-        room = omega (arith, T .below .size, n .room);
-        few-signals = n .few-signals;
-        few-ranks = n .few-ranks;
-        count = λ i l. omega (arith, T .counts rank R i l, line-most (tableWith z rank) (places v) i, n .few-signals);
-        channel = channel-most;
-        rank = rank-most;
-      }
-
--- A table whose ranks the area u lists, placed and then tallied: the area can be answered, with the bytes of its table and plan.
-pub answered : {z : Size} {rank : ℕ → ℕ → ℕ} {u v w : List ℕ} → Input z u → Ranks z rank u → PlacedFrom z u v → Tallied z v w
-    → Answerable z w × (packed (fieldsIn z w) ≡ answerOf (tableWith z rank) (places v))
-unfolding answerOf
-answered {z} {rank} {u} {v} {w} n R P T =
-    let now : Input z v = same-input (P .table) n in
-    let ranks : Ranks z rank v = same-ranks n (P .table) R in
-    let plan : Plan (tableWith z rank) (places v) = P .placed rank R .plan in
-    (answerable now (P .mates) ranks plan T, ap packed (answer-fields now (P .mates) ranks plan T))
+    -- Counts and places of a plan of a table within the limits can be written, and what is written is the answer.
+    pub written-answer : Answerable counts places × (packed (fieldsOf counts places) ≡ answerOf T p)
+    unfolding answerOf
+    written-answer = (plan-fits, ap packed plan-fields)

@@ -9,10 +9,8 @@ use native.Mathlib.Omega.{arith}
 use lib.ListN.{length, drop, set, length-append}
 use Rattle.fields.specs.Fields.{allBits, bitsIn, gathered, packed}
 use Rattle.fields.proofs.Packing.{length-packed}
-use Rattle.placer.specs.declared.Size.{Size}
-use Rattle.placer.specs.Work.{at, COUNT}
 use Rattle.answer.specs.Answer.{field, headFields, row, payloadFields, answerLength}
-use Rattle.answer.specs.Writing.{placeIn, fieldsIn, Spliced}
+use Rattle.answer.specs.Writing.{Spliced}
 use Rattle.answer.proofs.Bytes.{head-bytes, two-bytes, last-bytes, length-counts, length-places, row-count, row-two, row-last, payload-bytes, length-payload}
 use Rattle.answer.proofs.Splicing.{spliced-none, spliced-byte, spliced-next, spliced-whole}
 
@@ -96,26 +94,32 @@ module _ {g : ℕ → ℕ} {start s i : ℕ} {o p : List ℕ} (P : Paired g star
 
 -- The whole payload
 
-pub payload-written : (z : Size) (w : List ℕ) {o p q r : List ℕ} → answerLength (z .signals) (z .ranks) ≤ length o
-    → Spliced 0 (packed (headFields (z .signals) (z .ranks))) o p
-    → Spliced 2 (packed (row 8 (z .ranks) (at w COUNT))) p q
-    → Spliced (2 + z .ranks) (packed (row 12 (z .signals) (placeIn w))) q r
-    → r ≡ packed (fieldsIn z w) ++ drop (answerLength (z .signals) (z .ranks)) o
-unfolding fieldsIn bitsIn
-payload-written z w {o} {p} {q} {r} room head counts places =
-    spliced-whole all ∙ rw (length-payload (z .signals) (z .ranks) (at w COUNT) (placeIn w)) refl
-  where
-    length-head : length (packed (headFields (z .signals) (z .ranks))) ≡ 2
-    length-head = length-packed (headFields (z .signals) (z .ranks))
+module _ (S R : ℕ) (f g : ℕ → ℕ) where
+  abbrev headPart : List ℕ
+  headPart = packed (headFields S R)
 
-    both : Spliced 0 (packed (headFields (z .signals) (z .ranks)) ++ packed (row 8 (z .ranks) (at w COUNT))) o q
-    both = spliced-next head (omega (arith, length-head)) (rw length-head counts)
+  abbrev countsPart : List ℕ
+  countsPart = packed (row 8 R f)
 
-    length-both : 0 + length (packed (headFields (z .signals) (z .ranks)) ++ packed (row 8 (z .ranks) (at w COUNT))) ≡ 2 + z .ranks
-    length-both =
-        omega (arith, length-append (packed (headFields (z .signals) (z .ranks))) (packed (row 8 (z .ranks) (at w COUNT))), length-head, length-counts (at w COUNT) (z .ranks))
+  abbrev placesPart : List ℕ
+  placesPart = packed (row 12 S g)
 
-    all : Spliced 0 (packed (payloadFields (z .signals) (z .ranks) (at w COUNT) (placeIn w))) o r
-    all =
-        rw (payload-bytes (z .signals) (z .ranks) (at w COUNT) (placeIn w), ← append-assoc _ _ (packed (row 12 (z .signals) (placeIn w))))
-        (spliced-next both (omega (arith, length-both)) (rw length-both places))
+  pub payload-written : {o p q r : List ℕ} → answerLength S R ≤ length o
+      → Spliced 0 headPart o p → Spliced 2 countsPart p q → Spliced (2 + R) placesPart q r
+      → r ≡ packed (payloadFields S R f g) ++ drop (answerLength S R) o
+  unfolding bitsIn
+  payload-written {o} {p} {q} {r} room head counts places = spliced-whole all ∙ rw (length-payload S R f g) refl
+    where
+      length-head : length headPart ≡ 2
+      length-head = length-packed (headFields S R)
+
+      both : Spliced 0 (headPart ++ countsPart) o q
+      both = spliced-next head (omega (arith, length-head)) (rw length-head counts)
+
+      length-both : 0 + length (headPart ++ countsPart) ≡ 2 + R
+      length-both = omega (arith, length-append headPart countsPart, length-head, length-counts f R)
+
+      all : Spliced 0 (packed (payloadFields S R f g)) o r
+      all =
+          rw (payload-bytes S R f g, ← append-assoc headPart countsPart placesPart)
+          (spliced-next both (omega (arith, length-both)) (rw length-both places))

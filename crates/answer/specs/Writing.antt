@@ -1,30 +1,36 @@
--- The answer read off a tallied work area: what the area must hold (Answerable), the fields it gives (fieldsIn), and what writing
--- bytes into the middle of a slice does (Spliced).
-use Prim.Native.Nat.{ℕ, _+_, _*_, _≤_, _<_}
+-- The answer of given counts and places: what they must be (Answerable), the fields they make (fieldsOf), when they are those of a
+-- plan (Tells), and what writing bytes into the middle of a slice does (Spliced).
+use Prim.Native.Nat.{ℕ, _+_, _≤_, _<_}
 use mathlib.Core.Path.{_≡_}
 use mathlib.Core.List.{List, _++_}
-use lib.ListN.{length, take, drop}
+use lib.ListN.{length, take, drop, getD}
 use Rattle.fields.specs.Fields.{Field}
-use Rattle.placer.specs.declared.Size.{Size}
-use Rattle.placer.specs.Work.{at, CHANNEL, RANK, COUNT}
-use Rattle.answer.specs.Answer.{payloadFields}
+use Rattle.plans.specs.Plan.{Table, Places, line}
+use Rattle.plans.specs.Order.{filled}
+use Rattle.units.specs.Limits.{mostSignals, mostRanks}
+use Rattle.answer.specs.Answer.{payloadFields, placeFor}
 
--- The area's numbers fit the answer's fields.
-pub record Answerable (z : Size) (w : List ℕ) : Type 0 where
-  pub room : 16384 ≤ length w
-  pub few-signals : z .signals ≤ 200
-  pub few-ranks : z .ranks ≤ 15
-  pub count : (i : ℕ) → i < z .ranks → at w COUNT i < 256
-  pub channel : (s : ℕ) → s < z .signals → at w CHANNEL s < 256
-  pub rank : (s : ℕ) → s < z .signals → at w RANK s < 16
+-- Every number of the list is below the bound.
+pub record AllBelow (bound : ℕ) (l : List ℕ) : Type 0 where
+  pub each : (i : ℕ) → i < length l → getD l i 0 < bound
 
--- the place of signal s: its channel, or what stands for none, and its rank
-abbrev pub placeIn : List ℕ → ℕ → ℕ
-placeIn w s = 16 * at w CHANNEL s + at w RANK s
+-- At most 15 counts of 8 bits and 200 places of 12 bits.
+pub record Answerable (counts places : List ℕ) : Type 0 where
+  pub few-ranks : length counts ≤ mostRanks
+  pub few-signals : length places ≤ mostSignals
+  pub counts-fit : AllBelow 256 counts
+  pub places-fit : AllBelow 4096 places
 
--- The fields of the answer that the area holds.
-unfoldable pub fieldsIn : Size → List ℕ → List Field
-fieldsIn z w = payloadFields (z .signals) (z .ranks) (at w COUNT) (placeIn w)
+-- The fields of the answer with these counts, rank 1 first, and these places, signal 0 first.
+unfoldable pub fieldsOf : (counts places : List ℕ) → List Field
+fieldsOf counts places = payloadFields (length places) (length counts) (filled counts) (filled places)
+
+-- The counts and places are those of the table's plan: one count for each rank, one place for each signal.
+pub record Tells (T : Table) (p : Places) (counts places : List ℕ) : Type 0 where
+  pub ranks : length counts ≡ T .ranks
+  pub signals : length places ≡ T .signals
+  pub count : (i : ℕ) → i < T .ranks → getD counts i 0 ≡ line T p i
+  pub place : (s : ℕ) → s < T .signals → getD places s 0 ≡ placeFor T p s
 
 -- The bytes xs stand from index `start` on, and every other byte is as before.
 pub record Spliced (start : ℕ) (xs before after : List ℕ) : Type 0 where

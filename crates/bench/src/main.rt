@@ -1,6 +1,8 @@
 // The bench program: reads one block from standard input and lists the plan that the box answers with, or its refusal.
 // No command that the box accepts has more than 7,515 bytes, so an input that is cut at 8,192 is never placed.
 ghost use Prim.Native.Nat.{_≤_};
+use units::Refusal;
+use work::NUMBERS;
 
 // The channel that an answer gives to a signal without a place.
 const NONE: u32 = 255;
@@ -15,10 +17,10 @@ fn end_line() {
     io::write_all(1, b"\n");
 }
 
-fn refused(number: u32, place: usize) {
-    say(b"refused ", number);
+fn refused(refusal: Refusal) {
+    say(b"refused ", refusal.number);
     io::write_all(1, b" at ");
-    io::print_decimal(1, place as u64);
+    io::print_decimal(1, refusal.place as u64);
     end_line();
 }
 
@@ -123,13 +125,14 @@ fn first(s: &[u8], n: usize) -> &[u8] {
 // Handles the input and lists what came of it. The longest answer's block has 322 bytes.
 fn run(input: &[u8]) {
     let mut area = [0u8; 322];
-    let mut work = [0u16; 16384];
-    let reply = graupenzelt::handle(input, &mut area, &mut work);
-    if reply.number != 0 {
-        refused(reply.number, reply.place);
+    let mut work = [0u16; NUMBERS];
+    let reply = command::handle(input, &mut area, &mut work);
+    let refusal = reply.refusal;
+    if refusal.number != 0 {
+        refused(refusal);
         return;
     }
-    list(block::payload(first(&area, reply.length)));
+    list(opening::payload(first(&area, reply.length)));
 }
 
 fn main() {

@@ -1,25 +1,29 @@
 -- Opening a block yields exactly the bytes that its form marks: what opens is a block of one of the two forms and its payload
 -- is what is handed back (opened-form), and every block of either form opens (form-opened).
--- Leans on Digits and Opened.
-use Prim.Native.Nat.{ℕ, zero, suc, _+_, _-_, _*_, _≤_, _<_}
+-- Leans on opening's laws of the header and of how a block must end.
+use Prim.Native.Nat.{ℕ, zero, suc, _+_, _-_, _<_}
 use mathlib.Core.Path.{_≡_, refl, ap, sym, _∙_}
 use mathlib.Core.Bool.{Bool, true, false, cond}
 use mathlib.Core.List.{List, [], _∷_, _++_}
-use native.Mathlib.Nat.{lt-of-not-le, not-suc-le-zero, le-of-suc-le-suc}
-use native.Mathlib.Decide.{ℕ-discrete, decLe, decLt}
+use native.Mathlib.Nat.{not-suc-le-zero, le-of-suc-le-suc}
 use native.Mathlib.Omega.{arith}
 use lib.ListN.{length, getD, take, drop, length-append, length-drop, length-take, take-append-drop, drop-of-length-le}
-use lib.Seq.{take-all, take-at, take-suc, getD-take, drop-cons}
+use lib.Seq.{take-all, take-at, getD-take, drop-cons}
 use lib.Dec.{eqb}
 use borrow.Author.Tests.{eq-eqb, ne-eqb, eqb-true, eqb-false}
 use Rattle.bytes.specs.Bytes.{indexOf, indexAfter}
-use Rattle.block.specs.declared.Opening.{Opening}
-use Rattle.block.specs.declared.Opening.the-variants.{NoMark, NoDigit, WrongEnd, Payload}
-use Rattle.block.specs.Opening.{isDigit, digitsAt2, countAt2, endedOf, countedOf, openingOf, openingNumber, openingStart, openingLength, payloadOf, from}
-use Rattle.block.specs.Forms.{Definite, OpenEnded, Block}
+use Rattle.units.specs.Refusals.{wrongEnd}
+use Rattle.opening.specs.declared.headers.Header.{Header}
+use Rattle.opening.specs.declared.headers.Header.the-variants.{NoMark, NoDigit, OpenEnded, Counted}
+use Rattle.opening.specs.declared.Opening.{Opening}
+use Rattle.opening.specs.declared.Opening.the-variants.{Refused}
+use Rattle.opening.specs.Header.{headerIn, counting, Counts, HeaderSays}
+use Rattle.opening.specs.Opening.{endedOf, countedOf, openingBy, openingOf, openingRefusal, openingStart, openingLength, payloadOf, from}
+use Rattle.opening.proofs.Digits.{header-inside}
+use Rattle.opening.proofs.Reading.{header-says, header-ended, counts-header}
+use Rattle.opening.proofs.Ending.{opening-from, counted-ends}
+use Rattle.block.specs.Forms.{DefiniteForm, OpenEndedForm, Block, HandsBack}
 use Rattle.block.specs.Forms.Block.{definite, openEnded}
-use Rattle.block.proofs.Digits.{digit-low, digit-high, digit-there, and-right}
-use Rattle.block.proofs.Opened.{stands, opening-unmarked, opening-undigited, opening-ended, opening-counted}
 
 -- The first b of a list
 
@@ -50,6 +54,10 @@ index-append b [] rest h = rw (eq-eqb b b refl)
 index-append b (x ∷ p) rest h =
     rw (ne-eqb x b (h 0 (omega arith))) (ap suc (index-append b p rest (λ i l. h (suc i) (omega arith))))
 
+-- What an answer of opening s hands back is a payload that a form marks, if the answer is no refusal.
+Marks : (List ℕ → List ℕ → Type 0) → List ℕ → Opening → Type 0
+Marks Form s o = openingRefusal o .number ≡ 0 → Form s (take (openingLength o) (drop (openingStart o) s))
+
 -- The open-ended form
 
 -- a list whose first newline is its last element
@@ -63,15 +71,14 @@ ended-rest t e =
     ∙ ap (λ (b : ℕ). b ∷ []) (index-at 10 t (omega arith)))
 
 module _ (s : List ℕ) (mark : getD s 0 0 ≡ 35) (form : getD s 1 0 ≡ 48) where
-  ended-form : openingNumber (endedOf s) ≡ 0 → OpenEnded s (take (openingLength (endedOf s)) (drop (openingStart (endedOf s)) s))
-  unfolding endedOf from
+  ended-form : Marks OpenEndedForm s (endedOf s)
+  unfolding Marks endedOf from
   ended-form = go (eqb (2 + n + 1) (length s)) refl
     where
       n : ℕ
       n = indexOf 10 (drop 2 s)
 
-      go : (b : Bool) → eqb (2 + n + 1) (length s) ≡ b
-          → (let o = cond b (from 2 n) WrongEnd in openingNumber o ≡ 0 → OpenEnded s (take (openingLength o) (drop (openingStart o) s)))
+      go : (b : Bool) → eqb (2 + n + 1) (length s) ≡ b → Marks OpenEndedForm s (cond b (from 2 n) (Refused (wrongEnd 2)))
       go true e z =
           let whole : n + 1 ≡ length (drop 2 s) = omega (arith, length-drop 2 s, eqb-true (2 + n + 1) (length s) e) in
           record {
@@ -82,7 +89,7 @@ module _ (s : List ℕ) (mark : getD s 0 0 ≡ 35) (form : getD s 1 0 ≡ 48) wh
           }
       go false e z = absurd (omega (arith, z))
 
-ended-opens : (s p : List ℕ) → OpenEnded s p → endedOf s ≡ from 2 (length p)
+ended-opens : (s p : List ℕ) → OpenEndedForm s p → endedOf s ≡ from 2 (length p)
 unfolding endedOf
 ended-opens s p f =
     let n : indexOf 10 (drop 2 s) ≡ length p = rw (f .rest) (index-append 10 p [] (f .plain)) in
@@ -91,75 +98,61 @@ ended-opens s p f =
 
 -- The definite form
 
-module _ (s : List ℕ) (k : ℕ) (mark : getD s 0 0 ≡ 35) (form : getD s 1 0 ≡ 48 + k) (some : 1 ≤ k) (few : k ≤ 9) where
-  counted-form : openingNumber (countedOf s k) ≡ 0 → Definite s (take (openingLength (countedOf s k)) (drop (openingStart (countedOf s k)) s))
-  unfolding countedOf from
-  counted-form = go (digitsAt2 s k) refl (eqb (2 + k + countAt2 s k) (length s)) refl
-    where
-      go : (d : Bool) → digitsAt2 s k ≡ d → (b : Bool) → eqb (2 + k + countAt2 s k) (length s) ≡ b
-          → (let o = cond d (cond b (from (2 + k) (countAt2 s k)) WrongEnd) NoDigit in
-          openingNumber o ≡ 0 → Definite s (take (openingLength o) (drop (openingStart o) s)))
-      go true h true e z =
-          let size : length (drop (2 + k) s) ≡ countAt2 s k = omega (arith, length-drop (2 + k) s, eqb-true (2 + k + countAt2 s k) (length s) e) in
-          let whole : take (countAt2 s k) (drop (2 + k) s) ≡ drop (2 + k) s = take-all (countAt2 s k) (drop (2 + k) s) (omega arith) in
-          record {
-            k = k;
-            some = some;
-            few = few;
-            mark = mark;
-            form = form;
-            digits = h;
-            counts = rw whole (sym size);
-            rest = sym whole;
-          }
-      go true h false e z = absurd (omega (arith, z))
-      go false h true e z = absurd (omega (arith, z))
-      go false h false e z = absurd (omega (arith, z))
+counted-form : (s : List ℕ) (start n : ℕ) → Counts s start n → Marks DefiniteForm s (countedOf s start n)
+unfolding Marks countedOf from
+counted-form s start n f = go (eqb (start + n) (length s)) refl
+  where
+    go : (b : Bool) → eqb (start + n) (length s) ≡ b → Marks DefiniteForm s (cond b (from start n) (Refused (wrongEnd start)))
+    go true e z =
+        let size : length (drop start s) ≡ n = omega (arith, length-drop start s, eqb-true (start + n) (length s) e) in
+        let whole : take n (drop start s) ≡ drop start s = take-all n (drop start s) (omega arith) in
+        record {
+          k = f .k;
+          some = f .some;
+          few = f .few;
+          mark = f .mark;
+          form = f .form;
+          digits = f .digits;
+          counts = rw whole (sym (f .value) ∙ sym size);
+          rest = ap (λ (i : ℕ). drop i s) (sym (f .at)) ∙ sym whole;
+        }
+    go false e z = absurd (omega (arith, z))
 
--- one digit is there, so the header lies within the input
-pub header-inside : (s : List ℕ) (k : ℕ) → 1 ≤ k → digitsAt2 s k ≡ true → 2 + k ≤ length s
-unfolding digitsAt2
-header-inside s zero l e = absurd (omega arith)
-header-inside s (suc k) l e = omega (arith, stands s (2 + k) (digit-there (getD s (2 + k) 0) (and-right (digitsAt2 s k) (isDigit (getD s (2 + k) 0)) e)))
-
-definite-opens : (s p : List ℕ) (f : Definite s p) → countedOf s (f .k) ≡ from (2 + f .k) (length p)
-unfolding countedOf
+definite-opens : (s p : List ℕ) (f : DefiniteForm s p) → openingOf s ≡ from (2 + f .k) (length p)
+unfolding openingBy counting
 definite-opens s p f =
     let size : length s - (2 + f .k) ≡ length p = sym (length-drop (2 + f .k) s) ∙ ap length (f .rest) in
-    rw (f .digits, f .counts, eq-eqb (2 + f .k + length p) (length s) (omega (arith, header-inside s (f .k) (f .some) (f .digits))))
+    let header : Counts s (2 + f .k) (length p) =
+    record { k = f .k; some = f .some; few = f .few; mark = f .mark; form = f .form; digits = f .digits; at = refl; value = sym (f .counts) } in
+    opening-from s (headerIn s) (counting (2 + f .k) (length p)) refl (counts-header s header)
+    ∙ counted-ends s (2 + f .k) (length p) (omega (arith, header-inside s (f .k) (f .some) (f .digits)))
+
+-- Either form
+
+marks-by : (s : List ℕ) (h : Header) → HeaderSays s h → Marks Block s (openingBy s h)
+unfolding HeaderSays openingBy Marks
+marks-by s NoMark f z = absurd (omega (arith, z))
+marks-by s (NoDigit i) f z = absurd (omega (arith, z))
+marks-by s OpenEnded f z = openEnded (ended-form s (f .mark) (f .form) z)
+marks-by s (Counted start n) f z = definite (counted-form s start (n .0) f z)
 
 -- Main results
 
 -- What opens is a block of one of the two forms, and what is handed back is its payload.
-pub opened-form : (s : List ℕ) → openingNumber (openingOf s) ≡ 0 → Block s (payloadOf s)
-unfolding payloadOf
-opened-form s = marked (ℕ-discrete (getD s 0 0) 35)
-  where
-    Opens : Opening → Type 0
-    Opens o = openingNumber o ≡ 0 → Block s (take (openingLength o) (drop (openingStart o) s))
-
-    digit : getD s 0 0 ≡ 35 → Dec (getD s 1 0 < 48) → Dec (57 < getD s 1 0) → Dec (getD s 1 0 ≡ 48) → Opens (openingOf s)
-    digit m (yes l) h e = rw (opening-undigited s m (digit-low (getD s 1 0) l)) (λ z. absurd (omega (arith, z)))
-    digit m (no l) (yes h) e = rw (opening-undigited s m (digit-high (getD s 1 0) h)) (λ z. absurd (omega (arith, z)))
-    digit m (no l) (no h) (yes e) = rw (opening-ended s m e) (λ z. openEnded (ended-form s m e z))
-    digit m (no l) (no h) (no e) =
-        let low : 48 < getD s 1 0 = omega (arith, lt-of-not-le l) in
-        let high : getD s 1 0 ≤ 57 = omega (arith, lt-of-not-le h) in
-        rw (opening-counted s m low high)
-        (λ z. definite (counted-form s (getD s 1 0 - 48) m (omega arith) (omega arith) (omega arith) z))
-
-    marked : Dec (getD s 0 0 ≡ 35) → Opens (openingOf s)
-    marked (yes m) = digit m (decLt (getD s 1 0) 48) (decLt 57 (getD s 1 0)) (ℕ-discrete (getD s 1 0) 48)
-    marked (no m) = rw (opening-unmarked s m) (λ z. absurd (omega (arith, z)))
+pub opened-form : (s : List ℕ) → openingRefusal (openingOf s) .number ≡ 0 → Block s (payloadOf s)
+unfolding openingOf payloadOf Marks
+opened-form s = marks-by s (headerIn s) (header-says s)
 
 -- Every block of either form opens, and hands back the payload that the form marks.
-pub form-opened : (s p : List ℕ) → Block s p → (openingNumber (openingOf s) ≡ 0) × (payloadOf s ≡ p)
-unfolding payloadOf from
+pub form-opened : (s p : List ℕ) → Block s p → HandsBack s p
+unfolding payloadOf from openingBy
 form-opened s p (definite f) =
-    let k : getD s 1 0 - 48 ≡ f .k = omega (arith, f .form) in
-    let e : openingOf s ≡ from (2 + f .k) (length p) =
-    opening-counted s (f .mark) (omega (arith, f .form, f .some)) (omega (arith, f .form, f .few)) ∙ rw k (definite-opens s p f) in
-    rw e (refl, take-all (length p) (drop (2 + f .k) s) (rw (f .rest) (omega arith)) ∙ f .rest)
+    let e : openingOf s ≡ from (2 + f .k) (length p) = definite-opens s p f in
+    record {
+      succeeds = ap openingRefusal e;
+      payload = rw e (take-all (length p) (drop (2 + f .k) s) (rw (f .rest) (omega arith)) ∙ f .rest);
+    }
 form-opened s p (openEnded f) =
-    let e : openingOf s ≡ from 2 (length p) = opening-ended s (f .mark) (f .form) ∙ ended-opens s p f in
-    rw e (refl, rw (f .rest) (take-at p (10 ∷ []) (length p) refl))
+    let e : openingOf s ≡ from 2 (length p) =
+    opening-from s (headerIn s) OpenEnded refl (header-ended s (f .mark) (f .form)) ∙ ended-opens s p f in
+    record { succeeds = ap openingRefusal e; payload = rw e (rw (f .rest) (take-at p (10 ∷ []) (length p) refl)) }

@@ -1,8 +1,4 @@
-pub mod Digits
-pub mod Opened
-pub mod Parts
-pub mod Written
-pub mod Framed
+-- Opening and the forms (Forms), framing and opening again (RoundTrip), and how tight the promises are (Tight).
 pub mod Forms
 pub mod RoundTrip
 pub mod Tight

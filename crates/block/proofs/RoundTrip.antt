@@ -1,25 +1,25 @@
 -- What is framed is read back the same. Main results: the framed block is a definite block that marks the payload, its header
 -- counting bytes (framed-definite, header-counts-bytes), so opening it hands the payload back (framed-opens); and no definite
 -- block of the payload is shorter (framed-shortest).
--- Leans on Digits, Framed and Forms.
-use Prim.Native.Nat.{ℕ, zero, suc, _+_, _-_, _*_, _/_, _%_, _^_, _≤_, _<_}
+-- Leans on Forms, and on the laws of opening and framing.
+use Prim.Native.Nat.{ℕ, zero, suc, _+_, _-_, _/_, _%_, _^_, _≤_, _<_}
 use mathlib.Core.Path.{_≡_, refl, ap, sym, _∙_}
-use mathlib.Core.Bool.{Bool, true, false, cond}
-use mathlib.Core.List.{List, [], _∷_, _++_}
-use native.Mathlib.Nat.{pow-suc, pow-zero, pow-le-pow-right, lt-of-not-le, div-lt-iff-lt-mul}
+use mathlib.Core.Bool.{true}
+use mathlib.Core.List.{List, [], _∷_}
+use native.Mathlib.Nat.{pow-suc, pow-zero, pow-le-pow-right, lt-of-not-le}
 use native.Mathlib.Decide.{decLt}
 use native.Mathlib.Omega.{arith}
-use lib.ListN.{length, getD, drop, List·getD-append, length-append, length-drop}
+use lib.ListN.{length, getD, List·getD-append, length-drop}
 use lib.Seq.{getD-at, drop-at}
 use borrow.Author.Tests.{lt-ltb, le-ltb}
-use Rattle.block.specs.Opening.{isDigit, digitsAt2, countAt2, openingOf, openingNumber, payloadOf}
-use Rattle.block.specs.Framing.{longest, widthOf, digitsOf, headerOf, headerLength, blockOf, blockLength}
-use Rattle.block.specs.Forms.{Definite, Block}
+use Rattle.opening.specs.Header.{digitsAt2, countAt2}
+use Rattle.opening.proofs.Digits.{digit-yes, header-inside, count-below}
+use Rattle.framing.specs.Framing.{longest, widthOf, digitsOf, headerOf, headerLength, blockOf, blockLength}
+use Rattle.framing.proofs.Written.{length-digits}
+use Rattle.framing.proofs.Framed.{length-header, length-block}
+use Rattle.block.specs.Forms.{DefiniteForm, HandsBack}
 use Rattle.block.specs.Forms.Block.{definite}
-use Rattle.block.proofs.Digits.{digit-yes, digit-most, and-left, and-right}
-use Rattle.block.proofs.Written.{length-digits}
-use Rattle.block.proofs.Framed.{length-header, length-block}
-use Rattle.block.proofs.Forms.{form-opened, header-inside}
+use Rattle.block.proofs.Forms.{form-opened}
 
 -- How wide a number is: it has from one to four digits, it fits them, and it does not fit fewer.
 record Wide (n k : ℕ) : Type 0 where
@@ -68,18 +68,6 @@ read-digits s (suc k) n l h =
       rw (less .1, last) (omega arith),
     )
 
--- every number read from k digits is below 10 ^ k
-count-below : (s : List ℕ) (k : ℕ) → digitsAt2 s k ≡ true → countAt2 s k < 10 ^ k
-unfolding digitsAt2 countAt2
-count-below s zero e = omega (arith, pow-zero 10)
-count-below s (suc k) e =
-    omega (
-      arith,
-      pow-suc 10 k,
-      count-below s k (and-left (digitsAt2 s k) (isDigit (getD s (2 + k) 0)) e),
-      digit-most (getD s (2 + k) 0) (and-right (digitsAt2 s k) (isDigit (getD s (2 + k) 0)) e),
-    )
-
 header-size : (n : ℕ) → length (headerOf n) ≡ 2 + widthOf n
 unfolding headerLength
 header-size = length-header
@@ -102,7 +90,7 @@ module _ (p : List ℕ) (short : length p ≤ longest) where
   header-counts-bytes = read .1
 
   -- A framed block is a definite block, and marks the payload.
-  pub framed-definite : Definite (blockOf p) p
+  pub framed-definite : DefiniteForm (blockOf p) p
   unfolding blockOf headerOf
   framed-definite =
       record {
@@ -117,11 +105,11 @@ module _ (p : List ℕ) (short : length p ≤ longest) where
       }
 
   -- Opening a framed block succeeds and hands back the payload.
-  pub framed-opens : (openingNumber (openingOf (blockOf p)) ≡ 0) × (payloadOf (blockOf p) ≡ p)
+  pub framed-opens : HandsBack (blockOf p) p
   framed-opens = form-opened (blockOf p) p (definite framed-definite)
 
   -- No definite block of the payload is shorter.
-  pub framed-shortest : (s : List ℕ) → Definite s p → length (blockOf p) ≤ length s
+  pub framed-shortest : (s : List ℕ) → DefiniteForm s p → length (blockOf p) ≤ length s
   unfolding blockLength headerLength
   framed-shortest s f =
       omega (

@@ -1,13 +1,16 @@
--- The two forms of a block, as document 01 describes them and whatever opens it: s is a block, p the payload that it marks.
+-- The two forms of a block, as document 01 describes them and whatever opens it: s is a block, p the payload that it marks; and what
+-- it means that opening hands a payload back.
 use Prim.Native.Nat.{ℕ, _+_, _≤_, _<_}
 use mathlib.Core.Path.{_≡_}
 use mathlib.Core.Bool.{true}
 use mathlib.Core.List.{List, [], _∷_, _++_}
 use lib.ListN.{length, getD, drop}
-use Rattle.block.specs.Opening.{digitsAt2, countAt2}
+use Rattle.units.specs.Refusals.{success}
+use Rattle.opening.specs.Header.{digitsAt2, countAt2}
+use Rattle.opening.specs.Opening.{openingOf, openingRefusal, payloadOf}
 
 -- Definite: `#`, a digit k from 1 to 9, k digits that count the bytes of the payload, then the payload and nothing more.
-pub record Definite (s p : List ℕ) : Type 0 where
+pub record DefiniteForm (s p : List ℕ) : Type 0 where
   pub k : ℕ
   pub some : 1 ≤ k
   pub few : k ≤ 9
@@ -18,7 +21,7 @@ pub record Definite (s p : List ℕ) : Type 0 where
   pub rest : drop (2 + k) s ≡ p
 
 -- Open-ended: `#0`, then a payload without a newline, then a newline and nothing more.
-pub record OpenEnded (s p : List ℕ) : Type 0 where
+pub record OpenEndedForm (s p : List ℕ) : Type 0 where
   pub mark : getD s 0 0 ≡ 35
   pub form : getD s 1 0 ≡ 48
   pub rest : drop 2 s ≡ p ++ (10 ∷ [])
@@ -26,5 +29,10 @@ pub record OpenEnded (s p : List ℕ) : Type 0 where
 
 -- s is a block of one form or the other, and p is its payload.
 pub data Block (s p : List ℕ) : Type 0 where
-  definite : Definite s p → Block s p
-  openEnded : OpenEnded s p → Block s p
+  definite : DefiniteForm s p → Block s p
+  openEnded : OpenEndedForm s p → Block s p
+
+-- Opening s succeeds, and hands back p.
+pub record HandsBack (s p : List ℕ) : Type 0 where
+  pub succeeds : openingRefusal (openingOf s) ≡ success
+  pub payload : payloadOf s ≡ p

@@ -1,3 +1,2 @@
-pub mod Opening
-pub mod Framing
+-- The two forms of a block.
 pub mod Forms

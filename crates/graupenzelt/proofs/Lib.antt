@@ -1,9 +1,2 @@
--- Why a whole command is answered as it must be: the work area set to zero (Zeroed), a payload's table solved and its answer
--- written (Solving), and the rows in their order (Deciding). Tight and FixedPlan say what the promise fixes and which programs
--- it rules out, Laws how the counts in the answers stand to each other.
-pub mod Zeroed
-pub mod Solving
-pub mod Deciding
-pub mod Tight
-pub mod FixedPlan
-pub mod Laws
+-- From the steps' own answers to the replies in C.
+pub mod Replies

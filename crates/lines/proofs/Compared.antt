@@ -1,7 +1,7 @@
 -- One law for each way through comparing two lines: what the loops have seen makes of the definitions in specs/Comparing.
 -- Leans on plans' laws of the order.
 use Prim.Native.Nat.{ℕ, zero, suc, _+_, _≤_, _<_}
-use mathlib.Core.Path.{_≡_, refl, sym}
+use mathlib.Core.Path.{_≡_, refl, ap, sym}
 use mathlib.Core.Bool.{Bool, true, false, true≢false, false≢true}
 use mathlib.Core.List.{List}
 use native.Mathlib.Nat.{not-suc-le-zero}
@@ -10,9 +10,11 @@ use native.Mathlib.Omega.{arith}
 use lib.ListN.{length, getD}
 use Rattle.plans.specs.Order.{Less, Same, filled}
 use Rattle.plans.proofs.Order.{same-more, Less-irrefl, Less-asym}
+use Rattle.units.specs.declared.refusals.Refusal.{Refusal}
+use Rattle.units.specs.Refusals.{noLine}
 use Rattle.lines.specs.declared.Comparison.{Comparison}
-use Rattle.lines.specs.declared.Comparison.the-variants.{NoLine, Lesser, Equal, Greater}
-use Rattle.lines.specs.Comparing.{Line, Ordered, Compares, Judged}
+use Rattle.lines.specs.declared.Comparison.the-variants.{Refused, Lesser, Equal, Greater}
+use Rattle.lines.specs.Comparing.{Ordered, Compares, Judged}
 
 -- Whether a list is a line
 
@@ -82,11 +84,11 @@ ordered-equal {a} {b} e all =
 -- The whole comparison
 
 module _ (a b : List ℕ) where
-  pub refused-first : (r : Bool) → Judged a r → r ≡ true → Compares a b NoLine
-  refused-first r j e = record { refused = λ h. refl; ordered = λ m n. absurd (j .yes e m) }
+  pub refused-first : (q : Bool) (r : Refusal) → Judged a q → q ≡ true → r ≡ noLine → Compares a b (Refused r)
+  refused-first q r j e n = record { refused = λ h. ap Refused n; ordered = λ l m. absurd (j .yes e l) }
 
-  pub refused-second : (r : Bool) → Judged b r → r ≡ true → Compares a b NoLine
-  refused-second r j e = record { refused = λ h. refl; ordered = λ m n. absurd (j .yes e n) }
+  pub refused-second : (q : Bool) (r : Refusal) → Judged b q → q ≡ true → r ≡ noLine → Compares a b (Refused r)
+  refused-second q r j e n = record { refused = λ h. ap Refused n; ordered = λ l m. absurd (j .yes e m) }
 
   pub compared : (q r : Bool) (o : Comparison) → Judged a q → q ≡ false → Judged b r → r ≡ false → Ordered a b o → Compares a b o
   compared q r o j e k f h = record { refused = λ n. absurd (n (j .no e) (k .no f)); ordered = λ m n. h }

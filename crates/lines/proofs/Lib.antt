@@ -1,2 +1,3 @@
+-- Why comparing meets its promise (Compared), and how tight that promise is (Tight).
 pub mod Compared
 pub mod Tight

@@ -1,7 +1,7 @@
 -- How tight the promise of comparing is: two answers that meet it on the same lines are equal (compare-tight), and the order
 -- that is returned means what document 01 says, also at zero (order-means).
 use Prim.Native.Nat.{ℕ, zero, suc, _≤_, _<_}
-use mathlib.Core.Path.{_≡_, refl, ap, sym, _∙_}
+use mathlib.Core.Path.{_≡_, refl, sym, _∙_}
 use mathlib.Core.List.{List}
 use mathlib.Core.Logic.{_↔_}
 use native.Mathlib.Nat.{not-suc-le-zero}
@@ -12,9 +12,10 @@ use lib.IntN.{ℤ, pos, negsuc, pos-ne-negsuc}
 use Rattle.plans.specs.Order.{Less, Same, filled, Compared}
 use Rattle.plans.specs.Order.Compared.{lesser, equal, greater}
 use Rattle.plans.proofs.Order.{compare-lines, split-last, Less-irrefl, Less-asym}
+use Rattle.units.specs.Refusals.{noLine}
 use Rattle.lines.specs.declared.Comparison.{Comparison}
-use Rattle.lines.specs.declared.Comparison.the-variants.{NoLine, Lesser, Equal, Greater}
-use Rattle.lines.specs.Comparing.{Line, Ordered, Compares, comparisonNumber, comparisonPlace, comparisonOrder}
+use Rattle.lines.specs.declared.Comparison.the-variants.{Refused, Lesser, Equal, Greater}
+use Rattle.lines.specs.Comparing.{Line, Compares, comparisonOrder}
 
 -- Whether a list is a line can be decided.
 
@@ -40,22 +41,15 @@ answer : (a b : List ℕ) → (o : Comparison) × ((r : Comparison) → Compares
 answer a b = go (line-or-not a) (line-or-not b) (compare-lines 15 (filled a) (filled b))
   where
     go : Dec (Line a) → Dec (Line b) → Compared 15 (filled a) (filled b) → (o : Comparison) × ((r : Comparison) → Compares a b r → r ≡ o)
-    go (no h) k c = (NoLine, λ r p. p .refused (λ m n. h m))
-    go (yes h) (no k) c = (NoLine, λ r p. p .refused (λ m n. k n))
+    go (no h) k c = (Refused noLine, λ r p. p .refused (λ m n. h m))
+    go (yes h) (no k) c = (Refused noLine, λ r p. p .refused (λ m n. k n))
     go (yes h) (yes k) (lesser l) = (Lesser, λ r p. p .ordered h k .lesser l)
     go (yes h) (yes k) (equal e) = (Equal, λ r p. p .ordered h k .equal e)
     go (yes h) (yes k) (greater l) = (Greater, λ r p. p .ordered h k .greater l)
 
 -- Two answers that meet the promise on the same two lists are equal, and so are number, place and order.
-pub record SameComparison (r r′ : Comparison) : Type 0 where
-  pub number : comparisonNumber r ≡ comparisonNumber r′
-  pub place : comparisonPlace r ≡ comparisonPlace r′
-  pub order : comparisonOrder r ≡ comparisonOrder r′
-
-pub compare-tight : (a b : List ℕ) (r r′ : Comparison) → Compares a b r → Compares a b r′ → SameComparison r r′
-compare-tight a b r r′ p p′ =
-    let same : r ≡ r′ = answer a b .1 r p ∙ sym (answer a b .1 r′ p′) in
-    record { number = ap comparisonNumber same; place = ap comparisonPlace same; order = ap comparisonOrder same }
+pub compare-tight : (a b : List ℕ) (r r′ : Comparison) → Compares a b r → Compares a b r′ → r ≡ r′
+compare-tight a b r r′ p p′ = answer a b .1 r p ∙ sym (answer a b .1 r′ p′)
 
 -- What the order of two lines means: −1 exactly where the first is the lesser, 0 exactly where they are equal, 1 exactly where
 -- it is the greater.

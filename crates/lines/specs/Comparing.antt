@@ -7,8 +7,10 @@ use mathlib.Core.List.{List}
 use lib.ListN.{length, getD}
 use lib.IntN.{ℤ, pos, negsuc}
 use Rattle.plans.specs.Order.{Less, Same, filled}
+use Rattle.units.specs.declared.refusals.Refusal.{Refusal}
+use Rattle.units.specs.Refusals.{success, noLine}
 use Rattle.lines.specs.declared.Comparison.{Comparison}
-use Rattle.lines.specs.declared.Comparison.the-variants.{NoLine, Lesser, Equal, Greater}
+use Rattle.lines.specs.declared.Comparison.the-variants.{Refused, Lesser, Equal, Greater}
 
 -- A line holds 0 to 15 counts of 0 to 200.
 pub record Line (l : List ℕ) : Type 0 where
@@ -23,22 +25,19 @@ pub record Ordered (a b : List ℕ) (r : Comparison) : Type 0 where
 
 -- The promise of comparing a and b: a refusal exactly where one of them is no line, and else their order.
 pub record Compares (a b : List ℕ) (r : Comparison) : Type 0 where
-  pub refused : (Line a → Line b → ⊥) → r ≡ NoLine
+  pub refused : (Line a → Line b → ⊥) → r ≡ Refused noLine
   pub ordered : Line a → Line b → Ordered a b r
 
--- The refusal's number of document 01 (0 is success), its place, and the order: −1 where the first line is the lesser,
--- 1 where it is the greater, 0 where they are equal; a refusal's order is 0.
-abbrev pub comparisonNumber : Comparison → ℕ
-comparisonNumber NoLine = 5
-comparisonNumber Lesser = 0
-comparisonNumber Equal = 0
-comparisonNumber Greater = 0
-
-abbrev pub comparisonPlace : Comparison → ℕ
-comparisonPlace c = 0
+-- The number and place of an answer, and the order: −1 where the first line is the lesser, 1 where it is the greater, 0 where
+-- they are equal; a refusal's order is 0.
+abbrev pub comparisonRefusal : Comparison → Refusal
+comparisonRefusal (Refused r) = r
+comparisonRefusal Lesser = success
+comparisonRefusal Equal = success
+comparisonRefusal Greater = success
 
 abbrev pub comparisonOrder : Comparison → ℤ
-comparisonOrder NoLine = pos 0
+comparisonOrder (Refused r) = pos 0
 comparisonOrder Lesser = negsuc 0
 comparisonOrder Equal = pos 0
 comparisonOrder Greater = pos 1

@@ -1,1 +1,2 @@
+-- What comparing two lines of counts answers.
 pub mod Comparing

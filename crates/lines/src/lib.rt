@@ -1,13 +1,13 @@
 // Comparing two lines of counts, rank 1 first, a byte each, by the order that best plans are defined by.
 ghost use mathlib.Core.Path.{_≡_};
-ghost use Prim.Native.Nat.{_≤_};
 ghost use Rattle.plans.specs.Order.{filled};
-ghost use Rattle.lines.specs.Comparing.{Judged, Ordered, Compares, comparisonNumber, comparisonPlace, comparisonOrder};
+ghost use Rattle.lines.specs.Comparing.{Judged, Ordered, Compares, comparisonRefusal, comparisonOrder};
+use units::Refusal;
 
 // What comparing two lines comes to.
 pub enum Comparison {
     // One of them has more than 15 counts or a count above 200.
-    NoLine,
+    Refused(Refusal),
     // The first is the lesser.
     Lesser,
     Equal,
@@ -63,32 +63,25 @@ pub fn compare(a: &[u8], b: &[u8]) -> Comparison
     ensures { λ r. ⌜ Compares (now (a .entry)) (now (b .entry)) r ⌝ }
 {
     if is_no_line(a) {
-        return Comparison::NoLine;
+        return Comparison::Refused(Refusal::no_line());
     }
     if is_no_line(b) {
-        return Comparison::NoLine;
+        return Comparison::Refused(Refusal::no_line());
     }
     order_of(a, b)
 }
 
 impl Comparison {
-    // Document 01's number of the answer; 0 is success.
-    pub fn number(self) -> u32
-        ensures { λ r. ⌜ r ≡ comparisonNumber self ⌝ }
+    // Number and place; 0 and 0 where the lines could be compared.
+    pub fn refusal(self) -> Refusal
+        ensures { λ r. ⌜ r ≡ comparisonRefusal self ⌝ }
     {
         match self {
-            Comparison::NoLine => 5,
-            Comparison::Lesser => 0,
-            Comparison::Equal => 0,
-            Comparison::Greater => 0,
+            Comparison::Refused(refusal) => refusal,
+            Comparison::Lesser => Refusal::success(),
+            Comparison::Equal => Refusal::success(),
+            Comparison::Greater => Refusal::success(),
         }
-    }
-
-    // Where it went wrong; comparing refuses at 0.
-    pub fn place(self) -> usize
-        ensures { λ r. ⌜ r ≡ comparisonPlace self ⌝ }
-    {
-        0
     }
 
     // -1 where the first line is the lesser, 1 where it is the greater, 0 where they are equal or there is a refusal.
@@ -96,7 +89,7 @@ impl Comparison {
         ensures { λ r. ⌜ r ≡ comparisonOrder self ⌝ }
     {
         match self {
-            Comparison::NoLine => 0,
+            Comparison::Refused(_) => 0,
             Comparison::Lesser => -1,
             Comparison::Equal => 0,
             Comparison::Greater => 1,

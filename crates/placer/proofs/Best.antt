@@ -5,8 +5,9 @@ use mathlib.Core.List.{List}
 use Rattle.plans.specs.Plan.{Places, BestPlan}
 use Rattle.plans.specs.Covers.{Tight}
 use Rattle.plans.proofs.Covers.{tight-is-best, best-is-tight}
-use Rattle.placer.specs.declared.Size.{Size}
-use Rattle.placer.specs.Placing.{tableWith, places, Ranks, Placed, PlacedFrom}
+use Rattle.units.specs.declared.Size.{Size}
+use Rattle.work.specs.Ranks.{tableWith, places, Ranks}
+use Rattle.placer.specs.Placing.{Placed, PlacedFrom}
 
 module _ (z : Size) (rank : ℕ → ℕ → ℕ) (w : List ℕ) (P : Placed z rank w) where
   pub placed-best : BestPlan (tableWith z rank) (places w)

@@ -1,6 +1,6 @@
 -- One turn of the rank loop: what the area is between two ranks (After), and that entering, growing and striking carry it on.
 -- The promises about the table are kept for every rank function that the area lists where the loop begins.
--- Leans on Standing.
+-- Leans on Standing and the files that carry it on.
 use Prim.Native.Nat.{ℕ, zero, suc, _+_, _≤_, _<_}
 use mathlib.Core.Path.{_≡_, refl, sym, _∙_}
 use mathlib.Core.List.{List}
@@ -8,16 +8,26 @@ use native.Mathlib.Nat.{not-suc-le-zero, le-antisymm}
 use native.Mathlib.Numerals.{add-one}
 use native.Mathlib.Omega.{arith}
 use Rattle.plans.specs.Covers.{Covers}
-use Rattle.placer.specs.declared.Size.{Size}
-use Rattle.placer.specs.Work.{at, none, END, CHANNEL, SHUT-SIGNAL, FROM, MIDDLE, WHOLE, Same}
-use Rattle.placer.specs.State.{Input, InList, Lists, Room, Mates, Along, Sealed, Prepared, Entered, Quiet, Grown, Everyone, Struck}
-use Rattle.placer.specs.Placing.{Ranks, Placed, PlacedFrom}
-use Rattle.placer.proofs.Area.{same-at, same-refl, same-trans, same-part, same-sym, same-input, same-waiting, same-start, same-lists, same-mates}
-use Rattle.placer.proofs.Standing.{Standing, Covering, noCovers, next, same-ranks, standing-prepared, standing-entered, standing-grown, standing-struck, lists-struck, room-struck, along-struck, standing-quiet, placed-of-all, placed-of-standing}
-
--- No channel is marked.
-pub record Unmarked (z : Size) (w : List ℕ) : Type 0 where
-  pub each : (c : ℕ) → c < z .channels → at w FROM c ≡ none
+use Rattle.units.specs.declared.Size.{Size}
+use Rattle.work.specs.Work.{at, none, END, CHANNEL, SHUT-SIGNAL, FROM, MIDDLE, WHOLE, Unchanged}
+use Rattle.work.specs.Input.{Input}
+use Rattle.work.specs.State.{InList, Lists, Mates, Along, Sealed, Unmarked}
+use Rattle.work.specs.Ranks.{Ranks}
+use Rattle.work.proofs.Area.{unchanged-at, unchanged-refl, unchanged-trans, unchanged-part, unchanged-sym}
+use Rattle.work.proofs.Input.{same-input, same-start}
+use Rattle.work.proofs.State.{same-lists, same-mates}
+use Rattle.work.proofs.Ranks.{same-ranks}
+use Rattle.enter.specs.Entering.{Room, Prepared, Entered, Quiet}
+use Rattle.enter.proofs.Waiting.{same-waiting}
+use Rattle.grow.specs.Growing.{Grown, Everyone}
+use Rattle.strike.specs.Striking.{Struck}
+use Rattle.placer.specs.Placing.{Placed, PlacedFrom}
+use Rattle.placer.proofs.Standing.{Standing, Covering, noCovers, standing-prepared}
+use Rattle.placer.proofs.StandingStruck.{next, standing-struck, lists-struck, room-struck, along-struck}
+use Rattle.placer.proofs.StandingEntered.{standing-entered}
+use Rattle.placer.proofs.StandingGrown.{standing-grown}
+use Rattle.placer.proofs.StandingQuiet.{standing-quiet}
+use Rattle.placer.proofs.PlacedAtEnd.{placed-of-all, placed-of-standing}
 
 pub sealed-none : {z : Size} {w : List ℕ} → Unmarked z w → Sealed z 0 w
 sealed-none u =
@@ -30,7 +40,7 @@ sealed-none u =
 
 -- Between two ranks: i are done. v is the area where the loop began.
 pub record After (z : Size) (i : ℕ) (v w : List ℕ) : Type 0 where
-  pub input : Same 0 MIDDLE w v
+  pub input : Unchanged 0 MIDDLE w v
   pub lists : Lists z w
   pub room : Room z (suc i) w
   pub mates : Mates z w
@@ -42,7 +52,7 @@ pub after-prepared : (z : Size) (u v : List ℕ) → Input z u → Prepared z u 
 after-prepared z u v n p r =
     let S : Standing z (λ s c. 0) noCovers 0 0 v = standing-prepared z (λ s c. 0) u v n p in
     record {
-      input = same-refl 0 MIDDLE v;
+      input = unchanged-refl 0 MIDDLE v;
       lists = S .lists;
       room = r;
       mates = S .mates;
@@ -59,8 +69,8 @@ module _ {z : Size} {i : ℕ} {v w x : List ℕ} (n : Input z v) (A : After z i 
   pub entered-input : Input z x
   entered-input = same-input (E .input) now
 
-  mates-region : Same CHANNEL SHUT-SIGNAL x w
-  mates-region = same-part CHANNEL SHUT-SIGNAL (omega arith) (omega arith) (E .rest)
+  mates-region : Unchanged CHANNEL SHUT-SIGNAL x w
+  mates-region = unchanged-part CHANNEL SHUT-SIGNAL (omega arith) (omega arith) (E .rest)
 
   pub entered-mates : Mates z x
   entered-mates = same-mates now mates-region (A .mates)
@@ -69,12 +79,12 @@ module _ {z : Size} {i : ℕ} {v w x : List ℕ} (n : Input z v) (A : After z i 
   entered-along =
       record {
         live = λ s l k.
-            let e : at x CHANNEL s ≡ at w CHANNEL s = same-at mates-region CHANNEL s (omega arith) (omega (arith, n .few-signals)) in
+            let e : at x CHANNEL s ≡ at w CHANNEL s = unchanged-at mates-region CHANNEL s (omega arith) (omega (arith, n .limits .few-signals)) in
             rw e (E .keeps s (at w CHANNEL s) l (A .along .live s l (omega arith)));
       }
 
   entered-unmarked : Unmarked z x
-  entered-unmarked = record { each = λ c l. same-at (E .rest) FROM c (omega arith) (omega (arith, n .few-channels)) ∙ A .unmarked .each c l }
+  entered-unmarked = record { each = λ c l. unchanged-at (E .rest) FROM c (omega arith) (omega (arith, n .limits .few-channels)) ∙ A .unmarked .each c l }
 
   pub entered-sealed : Sealed z 0 x
   entered-sealed = sealed-none entered-unmarked
@@ -83,8 +93,8 @@ module _ {z : Size} {i : ℕ} {v w x : List ℕ} (n : Input z v) (A : After z i 
   entering : (rank : ℕ → ℕ → ℕ) → Ranks z rank v → i < z .ranks → (C : Covering z rank i w) → Standing z rank (C .covers) (suc i) i x
   entering rank h inside C = standing-entered z rank (C .covers) i w x now (same-ranks n (A .input) h) inside (C .standing) E
 
-  table-entered : Same 0 MIDDLE x v
-  table-entered = same-trans (E .input) (A .input)
+  table-entered : Unchanged 0 MIDDLE x v
+  table-entered = unchanged-trans (E .input) (A .input)
 
   -- A rank at which no pair entered is done.
   pub after-quiet : ((s c : ℕ) → s < z .signals → InList x s c → InList w s c) → i < z .ranks → After z (suc i) v x
@@ -103,8 +113,8 @@ module _ {z : Size} {i : ℕ} {v w x : List ℕ} (n : Input z v) (A : After z i 
       }
 
   module _ {y : List ℕ} (G : Grown z (z .signals) x y) where
-    table-part : Same 0 MIDDLE y x
-    table-part = same-part 0 MIDDLE (omega arith) (omega arith) (G .below)
+    table-part : Unchanged 0 MIDDLE y x
+    table-part = unchanged-part 0 MIDDLE (omega arith) (omega arith) (G .below)
 
     pub grown-input : Input z y
     grown-input = same-input table-part entered-input
@@ -117,9 +127,9 @@ module _ {z : Size} {i : ℕ} {v w x : List ℕ} (n : Input z v) (A : After z i 
         record {
           enough = λ s l.
               rw (
-                same-start table-part (suc s) (omega (arith, n .few-signals)),
-                same-waiting table-part z (n .few-pairs) (suc (suc i)) s,
-                same-at (G .below) END s (omega arith) (omega (arith, n .few-signals)),
+                same-start table-part (suc s) (omega (arith, n .limits .few-signals)),
+                same-waiting table-part z (n .limits .few-pairs) (suc (suc i)) s,
+                unchanged-at (G .below) END s (omega arith) (omega (arith, n .limits .few-signals)),
               )
               (E .room .enough s l);
         }
@@ -127,8 +137,8 @@ module _ {z : Size} {i : ℕ} {v w x : List ℕ} (n : Input z v) (A : After z i 
     growing : (rank : ℕ → ℕ → ℕ) → Ranks z rank v → i < z .ranks → (C : Covering z rank i w) → Standing z rank (C .covers) (suc i) i y
     growing rank h inside C = standing-grown z rank (C .covers) (suc i) i (z .signals) x y entered-input (entering rank h inside C) G
 
-    table-grown : Same 0 MIDDLE y v
-    table-grown = same-trans table-part table-entered
+    table-grown : Unchanged 0 MIDDLE y v
+    table-grown = unchanged-trans table-part table-entered
 
     -- Where every signal is placed the further ranks change nothing: the plan is placed.
     pub placed-early : ((s : ℕ) → s < z .signals → at y CHANNEL s < z .channels) → i < z .ranks
@@ -141,7 +151,7 @@ module _ {z : Size} {i : ℕ} {v w x : List ℕ} (n : Input z v) (A : After z i 
     pub after-more : {t : List ℕ} → Struck z y t → i < z .ranks → After z (suc i) v t
     after-more {t} X inside =
         record {
-          input = same-trans (X .input) table-grown;
+          input = unchanged-trans (X .input) table-grown;
           lists = lists-struck grown-input X grown-lists;
           room = room-struck grown-input X (suc (suc i)) grown-room;
           mates = same-mates grown-input (X .mates) (G .mates);
@@ -187,7 +197,7 @@ module _ {z : Size} {rank : ℕ} {v w : List ℕ} (n : Input z v) (A : After z r
       pub turn-everyone : {u : List ℕ} → Input z u → Prepared z u v → rank < z .ranks → Everyone z (z .signals) y → PlacedFrom z u y
       turn-everyone m p inside all =
           record {
-            table = same-trans (table-grown n A entered G) (p .input);
+            table = unchanged-trans (table-grown n A entered G) (p .input);
             mates = G .mates;
             placed = λ r h. placed-early n A entered G (all .placed) inside r (same-ranks m (p .input) h);
           }
@@ -197,7 +207,7 @@ pub turned : {z : Size} {rank : ℕ} {u v w : List ℕ} → Input z u → Prepar
     → PlacedFrom z u w
 turned {z} {rank} {u} {v} {w} m p n A most least =
     record {
-      table = same-trans (A .input) (p .input);
+      table = unchanged-trans (A .input) (p .input);
       mates = A .mates;
       placed = λ r h. placed-after z v w n (rw (le-antisymm most least) at A) r (same-ranks m (p .input) h);
     }

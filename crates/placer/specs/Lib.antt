@@ -1,4 +1,2 @@
-pub mod Work
-pub mod State
+-- What placing promises (Placing).
 pub mod Placing
-pub mod Unpacking

@@ -1,38 +1,12 @@
 // The placer: it finds a best plan of a table that lies unpacked in the work area, rank by rank, and keeps what shows it to be
-// best. specs/Work says how the area is laid out, specs/State what each step does to it, specs/Unpacking what unpacking promises
-// and specs/Placing what placing and tallying do.
-mod entering;
-mod flipping;
-mod growing;
-mod preparing;
-mod searching;
-mod striking;
-mod tallying;
-mod unpacking;
-pub mod work;
-
-ghost use Rattle.placer.specs.State.{Input};
+// best. specs/Placing says what it promises; the steps have crates of their own.
+ghost use Rattle.work.specs.Input.{Input};
 ghost use Rattle.placer.specs.Placing.{PlacedFrom};
-use entering::enter;
-use growing::grow;
-use preparing::prepare;
-use striking::strike;
-pub use tallying::tally;
-pub use unpacking::unpack;
-
-// How many signals, channels, ranks and pairs a table has.
-pub struct Size {
-    pub signals: usize,
-    pub channels: usize,
-    pub ranks: usize,
-    pub pairs: usize,
-}
-
-// What a search finds: a free channel, the last of so many reached, or nothing.
-pub enum Found {
-    Free(usize),
-    Nothing,
-}
+use enter::enter;
+use enter::prepare;
+use grow::grow;
+use strike::strike;
+use units::Size;
 
 // Places the table in the area. At each rank its pairs enter, the plan grows from what it was, and what the failed searches of
 // the rank cover is struck. A rank at which nothing entered changes nothing; with every signal placed the rest is done.

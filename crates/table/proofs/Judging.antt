@@ -1,24 +1,66 @@
--- Judging the entries: one law for each way through judging one entry alone, then what the loop keeps (Judging) and the laws that
--- carry it on (judging-more) and end it (judging-stop, judging-last, judging-done). Leans on proofs/Parts for what the tests of
--- one entry mean, and on proofs/Acceptance for what an answer 0 says of it.
+-- Judging the entries: one law for each way through judging one entry by its bits; that this is judging it alone (bits-judged); then
+-- what the loop keeps (Judging) and the laws that carry it on (judging-more) and end it (judging-stop, judging-last, judging-done).
+-- Leans on proofs/Tests for what the tests of one entry mean.
 use Prim.Native.Nat.{ℕ, zero, suc, _+_, _/_, _%_, _≤_, _<_}
 use mathlib.Core.Path.{_≡_, refl, ap, sym, _∙_}
 use mathlib.Core.Bool.{true, false}
 use mathlib.Core.List.{List}
-use mathlib.Core.Logic.{⊎-elim}
-use native.Mathlib.Decide.{ℕ-discrete}
+use native.Mathlib.Decide.{ℕ-discrete, decLt}
 use native.Mathlib.Numerals.{add-one}
 use native.Mathlib.Omega.{arith}
-use Rattle.fields.proofs.Bits.{field-bound}
-use Rattle.table.specs.declared.Head.{Head}
+use lib.Dec.{ltb}
+use borrow.Author.Tests.{lt-ltb, le-ltb}
+use Rattle.units.specs.declared.Size.{Size}
+use Rattle.units.specs.declared.refusals.Refusal.{Refusal}
+use Rattle.units.specs.Limits.{mostRanks}
+use Rattle.units.specs.Refusals.{notInTable, notAbove}
+use Rattle.tables.specs.Payload.{pairsIn, sizeIn, entryBits, entryIn}
+use Rattle.tables.proofs.Parts.{channel-byte, size-pairs, entry-parts}
 use Rattle.table.specs.declared.Checked.{Checked}
-use Rattle.table.specs.declared.Checked.the-variants.{NotInTable, NotAbove, Accepted}
-use Rattle.table.specs.Payload.{ranksIn, pairsIn, entryBits, entryIn}
-use Rattle.table.specs.Checking.{headIn, strays, sinks, judgedAlone, keyOf, floorAt, goOn, judged, checkedNumber}
-use Rattle.table.proofs.Parts.{InTable, in-table-passes, strays-signal, strays-channel, strays-no-rank, strays-rank, channel-byte, above-passes, keys-ascend, keys-sink, head-pairs, EntryParts, entry-parts}
-use Rattle.table.proofs.Acceptance.{gone-on, accepted-alone}
+use Rattle.table.specs.declared.Checked.the-variants.{Refused, Accepted}
+use Rattle.table.specs.Checking.{strays, sinks, judgedAlone, goOn, judged}
+use Rattle.table.specs.Judging.{entryOf, keyOf, floorAt, judgedBits}
+use Rattle.table.proofs.Tests.{in-table-passes, strays-signal, strays-channel, strays-no-rank, strays-rank}
+use Rattle.table.proofs.Tests.{above-passes, keys-ascend, keys-sink}
+use Rattle.table.proofs.Acceptance.{accepted-alone}
 
--- ---- one entry
+-- ---- one entry by its bits
+
+module _ (z : Size) (floor i bits : ℕ) where
+  stray : strays z (entryOf bits) ≡ true → Refused (notInTable i) ≡ judgedBits z floor i bits
+  unfolding judgedBits
+  stray e = rw e
+
+  pub stray-signal : z .signals ≤ bits / 16 / 256 → Refused (notInTable i) ≡ judgedBits z floor i bits
+  stray-signal l = stray (strays-signal z (entryOf bits) l)
+
+  pub stray-channel : z .channels ≤ bits / 16 % 256 → Refused (notInTable i) ≡ judgedBits z floor i bits
+  stray-channel l = stray (strays-channel z (entryOf bits) l)
+
+  -- rank 0, which comes round to 15, or a rank above the table's
+  pub stray-rank : z .ranks ≤ (bits % 16 + 15) % 16 → Refused (notInTable i) ≡ judgedBits z floor i bits
+  stray-rank l = pick (ℕ-discrete (bits % 16) 0)
+    where
+      pick : Dec (bits % 16 ≡ 0) → Refused (notInTable i) ≡ judgedBits z floor i bits
+      pick (yes none) = stray (strays-no-rank z (entryOf bits) none)
+      pick (no some) = stray (strays-rank z (entryOf bits) (omega arith))
+
+  module _ (few : z .ranks ≤ mostRanks) (signal : bits / 16 / 256 < z .signals) (channel : bits / 16 % 256 < z .channels)
+      (rank : (bits % 16 + 15) % 16 < z .ranks) where
+    stays : strays z (entryOf bits) ≡ false
+    stays =
+        in-table-passes z (entryOf bits)
+        (record { signal = signal; channel = channel; some-rank = omega arith; rank = omega arith })
+
+    pub sunk : bits / 16 < floor → Refused (notAbove i) ≡ judgedBits z floor i bits
+    unfolding judgedBits
+    sunk l = rw (stays, lt-ltb (bits / 16) floor l)
+
+    pub stands : floor ≤ bits / 16 → Accepted z ≡ judgedBits z floor i bits
+    unfolding judgedBits
+    stands l = rw (stays, le-ltb (bits / 16) floor l)
+
+-- ---- which is the entry judged alone
 
 -- Row 9 by keys.
 
@@ -37,118 +79,82 @@ sinks-so p (suc i) l = rw (keys-sink (entryIn p i) (entryIn p (suc i)) (channel-
 entry-key : (p : List ℕ) (i x : ℕ) → x ≡ entryBits p i → x / 16 ≡ keyOf (entryIn p i)
 entry-key p i x read = let parts = entry-parts p i x read in omega (arith, parts .signal, parts .channel)
 
--- Entry i with the head, the least key that may stand there, and its 20 bits at hand
-module _ (p : List ℕ) (i : ℕ) {h : Head} {floor x : ℕ}
-    (known : (h ≡ headIn p) × (floor ≡ floorAt p i) × (x ≡ entryBits p i)) where
-  is-head : h ≡ headIn p
-  is-head = known .0
+module _ (p : List ℕ) (i : ℕ) {floor x : ℕ} (least : floor ≡ floorAt p i) (read : x ≡ entryBits p i) where
+  is-entry : entryOf x ≡ entryIn p i
+  is-entry =
+      let parts = entry-parts p i x read in
+      λ t. record { signal = parts .signal t; channel = parts .channel t; rank = parts .rank t }
 
-  parts : EntryParts p i x
-  parts = entry-parts p i x (known .2)
-
-  stray : strays p i ≡ true → NotInTable i ≡ judgedAlone p i
-  unfolding judgedAlone
-  stray e = rw e
-
-  pub stray-signal : h .signals ≤ x / 16 / 256 → NotInTable i ≡ judgedAlone p i
-  unfolding headIn
-  stray-signal l = stray (strays-signal p i (rw (is-head, parts .signal) at l))
-
-  pub stray-channel : h .channels ≤ x / 16 % 256 → NotInTable i ≡ judgedAlone p i
-  unfolding headIn
-  stray-channel l = stray (strays-channel p i (rw (is-head, parts .channel) at l))
-
-  -- rank 0, which comes round to 15, or a rank above the table's
-  pub stray-rank : h .ranks ≤ (x % 16 + 15) % 16 → NotInTable i ≡ judgedAlone p i
-  unfolding headIn
-  stray-rank l = pick (ℕ-discrete (x % 16) 0)
+  by-keys : ltb (x / 16) floor ≡ sinks p i
+  by-keys = pick (decLt (x / 16) floor)
     where
-      pick : Dec (x % 16 ≡ 0) → NotInTable i ≡ judgedAlone p i
-      pick (yes none) = stray (strays-no-rank p i (sym (parts .rank) ∙ none))
-      pick (no some) = let high : h .ranks < x % 16 = omega arith in stray (strays-rank p i (rw (is-head, parts .rank) at high))
+      pick : Dec (x / 16 < floor) → ltb (x / 16) floor ≡ sinks p i
+      pick (yes l) = lt-ltb (x / 16) floor l ∙ sym (sinks-so p i (omega (arith, entry-key p i x read)))
+      pick (no l) = le-ltb (x / 16) floor (omega arith) ∙ sym (sinks-not p i (omega (arith, entry-key p i x read)))
 
-  module _ (signal : x / 16 / 256 < h .signals) (channel : x / 16 % 256 < h .channels) (rank : (x % 16 + 15) % 16 < h .ranks) where
-    few : h .ranks < 16
-    unfolding headIn ranksIn
-    few = rw is-head (field-bound p 16 4)
-
-    in-table : InTable p i
-    unfolding headIn
-    in-table =
-        let some : 1 ≤ x % 16 = omega (arith, few) in
-        let low : x % 16 ≤ h .ranks = omega (arith, few) in
-        record {
-          signal = rw (is-head, parts .signal) at signal;
-          channel = rw (is-head, parts .channel) at channel;
-          some-rank = rw (parts .rank) at some;
-          rank = rw (is-head, parts .rank) at low;
-        }
-
-    pub sunk : x / 16 < floor → NotAbove i ≡ judgedAlone p i
-    unfolding judgedAlone
-    sunk l = rw (in-table-passes p i in-table, sinks-so p i (omega (arith, entry-key p i x (known .2))))
-
-    pub stands : floor ≤ x / 16 → Accepted h ≡ judgedAlone p i
-    unfolding judgedAlone
-    stands l = rw (in-table-passes p i in-table, sinks-not p i (omega (arith, entry-key p i x (known .2)))) (ap Accepted is-head)
+  pub bits-judged : {z : Size} → z ≡ sizeIn p → judgedBits z floor i x ≡ judgedAlone p i
+  unfolding judgedBits judgedAlone
+  bits-judged is-size = rw (is-size, is-entry, by-keys)
 
 -- ---- all entries
 
 -- A refusal of the first i entries is what any more of them come to.
-refused-stands : (p : List ℕ) (i n : ℕ) (r : Checked) → 1 ≤ checkedNumber r → judged p i ≡ r → i ≤ n → judged p n ≡ r
-unfolding judged
-refused-stands p i zero r refuses e l = let first : i ≡ 0 = omega arith in rw first at e
-refused-stands p i (suc n) r refuses e l = pick (ℕ-discrete i (suc n)) (refused-stands p i n r refuses e)
+refused-stands : (p : List ℕ) (i n : ℕ) {r : Refusal} → judged p i ≡ Refused r → i ≤ n → judged p n ≡ Refused r
+unfolding judged goOn
+refused-stands p i zero e l = let first : i ≡ 0 = omega arith in rw first at e
+refused-stands p i (suc n) {r} e l = pick (ℕ-discrete i (suc n)) (refused-stands p i n e)
   where
-    pick : Dec (i ≡ suc n) → (i ≤ n → judged p n ≡ r) → goOn (judged p n) (judgedAlone p n) ≡ r
+    pick : Dec (i ≡ suc n) → (i ≤ n → judged p n ≡ Refused r) → goOn (judged p n) (judgedAlone p n) ≡ Refused r
     pick (yes last) ih = rw last at e
-    pick (no earlier) ih = rw (ih (omega arith)) (⊎-elim (λ refused. refused .1) (λ passed. absurd (omega arith)) (gone-on r (judgedAlone p n)))
+    pick (no earlier) ih = rw (ih (omega arith))
 
--- After i entries of the table of head h, none of them at fault.
-pub record Judging (p : List ℕ) (h : Head) (floor i : ℕ) : Type 0 where
-  pub is-head : h ≡ headIn p
-  pub within : i ≤ h .pairs .0
-  pub good : judged p i ≡ Accepted h
+-- After i entries of the table of size z, none of them at fault.
+pub record Judging (p : List ℕ) (z : Size) (floor i : ℕ) : Type 0 where
+  pub is-size : z ≡ sizeIn p
+  pub within : i ≤ z .pairs .0
+  pub good : judged p i ≡ Accepted z
   pub least : floor ≡ floorAt p i
 
-pub judging-none : {p : List ℕ} {h : Head} → h ≡ headIn p → Judging p h 0 0
+pub judging-none : {p : List ℕ} {z : Size} → z ≡ sizeIn p → Judging p z 0 0
 unfolding judged floorAt
-judging-none is-head = record { is-head = is-head; within = omega arith; good = sym (ap Accepted is-head); least = refl }
+judging-none is-size = record { is-size = is-size; within = omega arith; good = sym (ap Accepted is-size); least = refl }
 
-pub judging-same : {p : List ℕ} {h : Head} {f g i j : ℕ} → f ≡ g → i ≡ j → Judging p h f i → Judging p h g j
+pub judging-same : {p : List ℕ} {z : Size} {f g i j : ℕ} → f ≡ g → i ≡ j → Judging p z f i → Judging p z g j
 judging-same e e′ so-far = rw (e, e′) at so-far
 
-module _ {p : List ℕ} {h : Head} {floor i : ℕ} (so-far : Judging p h floor i) where
-  counted : h .pairs .0 ≡ pairsIn p
-  counted = head-pairs p h (so-far .is-head)
+module _ {p : List ℕ} {z : Size} {floor i : ℕ} (so-far : Judging p z floor i) where
+  counted : z .pairs .0 ≡ pairsIn p
+  counted = size-pairs p (so-far .is-size)
 
   -- Once all entries are judged, the table is accepted.
-  pub judging-done : i ≡ h .pairs .0 → Accepted h ≡ judged p (pairsIn p)
+  pub judging-done : i ≡ z .pairs .0 → Accepted z ≡ judged p (pairsIn p)
   judging-done all = sym (rw (all ∙ counted) at (so-far .good))
 
-  -- Entry i, judged alone
-  module _ {r : Checked} (alone : r ≡ judgedAlone p i) where
+  -- Entry i, judged by its 20 bits
+  module _ {r : Checked} {x : ℕ} (by-bits : r ≡ judgedBits z floor i x) (read : x ≡ entryBits p i) where
+    alone : r ≡ judgedAlone p i
+    alone = by-bits ∙ bits-judged p i (so-far .least) read (so-far .is-size)
+
     so-now : judged p (suc i) ≡ r
     unfolding judged goOn
     so-now = rw (so-far .good) (sym alone)
 
     -- is the first at fault,
-    pub judging-stop : i < h .pairs .0 → 1 ≤ checkedNumber r → r ≡ judged p (pairsIn p)
-    judging-stop more refuses = sym (refused-stands p (suc i) (pairsIn p) r refuses so-now (omega (arith, counted)))
+    pub judging-stop : {q : Refusal} → r ≡ Refused q → i < z .pairs .0 → r ≡ judged p (pairsIn p)
+    judging-stop refused more = refused ∙ sym (refused-stands p (suc i) (pairsIn p) (so-now ∙ refused) (omega (arith, counted)))
 
     -- or is the last,
-    pub judging-last : i + 1 ≡ h .pairs .0 → r ≡ judged p (pairsIn p)
+    pub judging-last : i + 1 ≡ z .pairs .0 → r ≡ judged p (pairsIn p)
     judging-last last = let all : suc i ≡ pairsIn p = omega (arith, counted) in sym (rw all at so-now)
 
-    -- or is not at fault. Its 20 bits say which key is the least that may come next.
-    pub judging-more : i < h .pairs .0 → checkedNumber r ≡ 0 → {x : ℕ} → x ≡ entryBits p i
-        → Judging p h (x / 16 + 1) (i + 1)
+    -- or is not at fault. Its bits say which key is the least that may come next.
+    pub judging-more : {y : Size} → r ≡ Accepted y → i < z .pairs .0 → Judging p z (x / 16 + 1) (i + 1)
     unfolding floorAt
-    judging-more more passes {x} read =
+    judging-more passed more =
         rw (add-one i)
         (record {
-          is-head = so-far .is-head;
+          is-size = so-far .is-size;
           within = more;
-          good = so-now ∙ alone ∙ accepted-alone p i (rw alone at passes) ∙ sym (ap Accepted (so-far .is-head));
+          good = so-now ∙ alone ∙ accepted-alone p i (sym alone ∙ passed) ∙ sym (ap Accepted (so-far .is-size));
           least = omega (arith, entry-key p i x read);
         })

@@ -1,16 +1,7 @@
--- Why checking answers as it should (Parts, Rows, Acceptance, Judging, Tight), and which table a payload holds: its entries (Ascending,
--- Entries), that it is the table of one payload only (OnePayload for lists of entries, Listing and OneTable for tables), and tables
--- made from others (Cutting, Joining, Making).
-pub mod Parts
+-- Why checking answers as it should: the tests of one entry (Tests), each way through a check (Rows), the entries in turn (Judging),
+-- what acceptance means (Acceptance), and that no other answer meets the promise (Tight).
+pub mod Tests
 pub mod Rows
 pub mod Acceptance
 pub mod Judging
 pub mod Tight
-pub mod Ascending
-pub mod Entries
-pub mod OnePayload
-pub mod Listing
-pub mod OneTable
-pub mod Cutting
-pub mod Joining
-pub mod Making

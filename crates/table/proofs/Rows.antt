@@ -1,5 +1,5 @@
 -- One law for each way through checking a payload: what the tests that led there make of the definitions in specs/Checking.
--- h is the head that was read.
+-- z is the size that was read.
 use Prim.Native.Nat.{ℕ, _+_, _-_, _*_, _≤_, _<_}
 use mathlib.Core.Path.{_≡_, _∙_}
 use mathlib.Core.Bool.{true, false, cond, or-true}
@@ -9,72 +9,74 @@ use lib.ListN.{length}
 use lib.Dec.{eqb}
 use borrow.Author.Tests.{lt-ltb, le-ltb, eq-eqb, ne-eqb}
 use Rattle.units.specs.Units.{bytesOf}
+use Rattle.units.specs.declared.Size.{Size}
+use Rattle.units.specs.Limits.{Limits, mostSignals, mostChannels, mostPairs}
+use Rattle.units.specs.Refusals.{short, tooLarge, wrongLength, dirtyFill}
 use Rattle.fields.specs.Fields.{fieldAt}
-use Rattle.table.specs.declared.Head.{Head}
-use Rattle.table.specs.declared.Checked.the-variants.{Short, TooLarge, WrongLength, DirtyFill}
-use Rattle.table.specs.Payload.{signalsIn, channelsIn, pairsIn, entryBit, payloadLength, fillIn}
-use Rattle.table.specs.Checking.{headIn, tooLarge, judged, checkedOf}
-use Rattle.table.proofs.Parts.{head-pairs}
+use Rattle.tables.specs.Payload.{pairsIn, sizeIn, entryBit, payloadLength, fillIn}
+use Rattle.tables.proofs.Parts.{size-pairs}
+use Rattle.table.specs.declared.Checked.the-variants.{Refused}
+use Rattle.table.specs.Checking.{outsized, judged, checkedOf}
 
-pub checked-short : (p : List ℕ) → length p < 4 → Short ≡ checkedOf p
+pub checked-short : (p : List ℕ) → length p < 4 → Refused short ≡ checkedOf p
 unfolding checkedOf
 checked-short p l = rw (lt-ltb (length p) 4 l)
 
--- The payload has a head, and h is it.
-pub record HeadRead (p : List ℕ) (h : Head) : Type 0 where
+-- The payload has a head, and z is what it says.
+pub record SizeRead (p : List ℕ) (z : Size) : Type 0 where
   pub long : 4 ≤ length p
-  pub is-head : h ≡ headIn p
+  pub is-size : z ≡ sizeIn p
 
-module _ {p : List ℕ} {h : Head} (r : HeadRead p h) where
-  refused-size : tooLarge p ≡ true → TooLarge ≡ checkedOf p
+module _ {p : List ℕ} {z : Size} (r : SizeRead p z) where
+  refused-size : outsized z ≡ true → Refused tooLarge ≡ checkedOf p
   unfolding checkedOf
-  refused-size e = rw (le-ltb (length p) 4 (r .long), e)
+  refused-size e = rw (le-ltb (length p) 4 (r .long), rw (r .is-size) at e)
 
-  pub many-signals : 200 < h .signals → TooLarge ≡ checkedOf p
-  unfolding tooLarge headIn
-  many-signals l = refused-size (rw (lt-ltb 200 (signalsIn p) (rw (r .is-head) at l)))
+  pub many-signals : mostSignals < z .signals → Refused tooLarge ≡ checkedOf p
+  unfolding outsized
+  many-signals l = refused-size (rw (lt-ltb mostSignals (z .signals) l))
 
-  pub many-channels : 200 < h .channels → TooLarge ≡ checkedOf p
-  unfolding tooLarge headIn
-  many-channels l = refused-size (simp (lt-ltb 200 (channelsIn p) (rw (r .is-head) at l), or-true))
+  pub many-channels : mostChannels < z .channels → Refused tooLarge ≡ checkedOf p
+  unfolding outsized
+  many-channels l = refused-size (simp (lt-ltb mostChannels (z .channels) l, or-true))
 
-  pub many-pairs : 3000 < h .pairs .0 → TooLarge ≡ checkedOf p
-  unfolding tooLarge headIn
-  many-pairs l = refused-size (simp (lt-ltb 3000 (pairsIn p) (rw (r .is-head) at l), or-true))
+  pub many-pairs : mostPairs < z .pairs .0 → Refused tooLarge ≡ checkedOf p
+  unfolding outsized
+  many-pairs l = refused-size (simp (lt-ltb mostPairs (z .pairs .0) l, or-true))
 
 -- and no number of it is too large
-pub record HeadFits (p : List ℕ) (h : Head) : Type 0 where
-  pub read : HeadRead p h
-  pub signals : h .signals ≤ 200
-  pub channels : h .channels ≤ 200
-  pub pairs : h .pairs .0 ≤ 3000
+pub record SizeFits (p : List ℕ) (z : Size) : Type 0 where
+  pub read : SizeRead p z
+  pub limits : Limits z
 
-module _ {p : List ℕ} {h : Head} (r : HeadFits p h) where
-  not-too-large : tooLarge p ≡ false
-  unfolding tooLarge headIn
-  not-too-large =
+module _ {p : List ℕ} {z : Size} (r : SizeFits p z) where
+  fits : outsized z ≡ false
+  unfolding outsized
+  fits =
       rw (
-        le-ltb 200 (signalsIn p) (rw (r .read .is-head) at (r .signals)),
-        le-ltb 200 (channelsIn p) (rw (r .read .is-head) at (r .channels)),
-        le-ltb 3000 (pairsIn p) (rw (r .read .is-head) at (r .pairs)),
+        le-ltb mostSignals (z .signals) (r .limits .few-signals),
+        le-ltb mostChannels (z .channels) (r .limits .few-channels),
+        le-ltb mostPairs (z .pairs .0) (r .limits .few-pairs),
       )
 
-  counted : h .pairs .0 ≡ pairsIn p
-  counted = head-pairs p h (r .read .is-head)
+  counted : z .pairs .0 ≡ pairsIn p
+  counted = size-pairs p (r .read .is-size)
 
   -- what is left to be judged
   past-row-5 : checkedOf p
-      ≡ cond (eqb (length p) (payloadLength (pairsIn p))) (cond (eqb (fillIn p) 0) (judged p (pairsIn p)) DirtyFill) WrongLength
+      ≡ cond (eqb (length p) (payloadLength (pairsIn p)))
+      (cond (eqb (fillIn p) 0) (judged p (pairsIn p)) (Refused dirtyFill))
+      (Refused wrongLength)
   unfolding checkedOf
-  past-row-5 = rw (le-ltb (length p) 4 (r .read .long), not-too-large)
+  past-row-5 = rw (le-ltb (length p) 4 (r .read .long), rw (r .read .is-size) at fits)
 
-  pub wrong-length : (length p ≡ 4 + bytesOf (h .pairs .0) → ⊥) → WrongLength ≡ checkedOf p
+  pub wrong-length : (length p ≡ 4 + bytesOf (z .pairs .0) → ⊥) → Refused wrongLength ≡ checkedOf p
   unfolding payloadLength
   wrong-length e = rw (past-row-5, ne-eqb (length p) (payloadLength (pairsIn p)) (λ sized. e (omega (arith, counted))))
 
   -- x is what was read from bit `at`, where the entries end, to the payload's end
-  module _ (sized : length p ≡ 4 + bytesOf (h .pairs .0)) (x at w : ℕ) (read : x ≡ fieldAt p at w)
-      (start : at ≡ 32 + 20 * h .pairs .0) (end : at + w ≡ 8 * length p) where
+  module _ (sized : length p ≡ 4 + bytesOf (z .pairs .0)) (x at w : ℕ) (read : x ≡ fieldAt p at w)
+      (start : at ≡ 32 + 20 * z .pairs .0) (end : at + w ≡ 8 * length p) where
     right-length : length p ≡ payloadLength (pairsIn p)
     unfolding payloadLength
     right-length = omega (arith, counted)
@@ -86,7 +88,7 @@ module _ {p : List ℕ} {h : Head} (r : HeadFits p h) where
         let width : w ≡ 8 * length p - (32 + 20 * pairsIn p) = omega arith in
         read ∙ rw (from, width)
 
-    pub dirty-fill : (x ≡ 0 → ⊥) → DirtyFill ≡ checkedOf p
+    pub dirty-fill : (x ≡ 0 → ⊥) → Refused dirtyFill ≡ checkedOf p
     dirty-fill e =
         rw (past-row-5, eq-eqb (length p) (payloadLength (pairsIn p)) right-length, ne-eqb (fillIn p) 0 (rw is-fill at e))
 

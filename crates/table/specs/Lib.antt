@@ -1,4 +1,3 @@
-pub mod Payload
+-- What checking answers (Checking); and inside, what judging one entry answers (Judging).
 pub mod Checking
-pub mod Making
-pub mod Listing
+pub mod Judging

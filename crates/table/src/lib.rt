@@ -1,120 +1,80 @@
-// Checking a bare payload: whether it is a table's, and which refusal it gets if not (rows 4 to 9). specs/Payload says which table a
-// payload holds, specs/Checking what checking answers for every byte string.
+// Checking a bare payload: whether it is a table's, and which refusal it gets if not (rows 4 to 9). specs/Checking says what checking
+// answers for every byte string.
 ghost use mathlib.Core.Path.{_≡_};
-ghost use Prim.Native.Nat.{_+_, _*_, _/_, _%_, _≤_};
-ghost use Rattle.table.specs.Payload.{pairsIn, entryBits};
-ghost use Rattle.table.specs.Checking.{headIn, floorAt, judgedAlone, judged, checkedOf, checkedNumber, checkedPlace, checkedHead};
-use units::Entries;
+ghost use Prim.Native.Nat.{_≤_};
+ghost use Rattle.units.specs.Limits.{mostRanks};
+ghost use Rattle.tables.specs.Payload.{pairsIn, sizeIn};
+ghost use Rattle.table.specs.Checking.{judged, checkedOf};
+ghost use Rattle.table.specs.Judging.{judgedBits};
+use tables::entry_at;
+use tables::size_of;
+use tables::two_entries;
+use units::MOST_CHANNELS;
+use units::MOST_PAIRS;
+use units::MOST_SIGNALS;
+use units::Refusal;
+use units::Size;
 
-// The numbers of a table's head.
-pub struct Head {
-    pub signals: usize,
-    pub channels: usize,
-    pub ranks: usize,
-    pub pairs: Entries,
-}
-
-// What checking a payload comes to: one of six refusals, the last two with the index of the faulty entry, or the head.
+// What checking a payload comes to: a refusal, or how large the table is.
 pub enum Checked {
-    // fewer than 4 bytes
-    Short,
-    // more than 200 signals or channels, or more than 3,000 pairs
-    TooLarge,
-    // not as many bytes as its pairs take
-    WrongLength,
-    // a fill bit that is not zero
-    DirtyFill,
-    // an entry's signal, channel or rank is not one of the table's
-    NotInTable(usize),
-    // an entry does not stand strictly above the one before
-    NotAbove(usize),
-    Accepted(Head),
+    Refused(Refusal),
+    Accepted(Size),
 }
 
-// Reads the head: all of its 32 bits at once.
-fn head_of(payload: &[u8]) -> Head
-    ensures { λ r. ⌜ r ≡ headIn (now (payload .entry)) ⌝ }
-{
-    let bits = fields::read(payload, 0, 32) as usize;
-    Head {
-        signals: bits / 16777216,
-        channels: bits / 65536 % 256,
-        ranks: bits / 4096 % 16,
-        pairs: Entries((bits % 4096) as u16),
-    }
-}
-
-// The 20 bits of entry i as one number: the signal, the channel, the rank.
-pub fn entry_at(payload: &[u8], i: usize) -> usize
-    requires { ⌜ i ≤ 65535 ⌝ }
-    ensures { λ r. ⌜ r ≡ entryBits (now (payload .entry)) i ⌝ }
-{
-    fields::read(payload, 32 + 20 * i, 20) as usize
-}
-
-// The entries 2 · two and 2 · two + 1 as one number of 40 bits. Before them stand the head and an even number of entries, so
-// they are five whole bytes.
-pub fn two_entries(payload: &[u8], two: usize) -> usize
-    requires { ⌜ two ≤ 32767 ⌝ }
-    ensures { λ r. ⌜ (r / 1048576 ≡ entryBits (now (payload .entry)) (2 * two)) × (r % 1048576 ≡ entryBits (now (payload .entry)) (2 * two + 1)) ⌝ }
-{
-    fields::five_bytes(payload, 4 + 5 * two) as usize
-}
-
-// Judges entry i alone (rows 8 and 9), with its 20 bits at hand. All but its rank is its key, 256 times the signal and the
+// Judges entry i of a table of this size by its 20 bits (rows 8 and 9). All but its rank is its key, 256 times the signal and the
 // channel, so entries ascend where their keys do; `floor` is the least key that may stand here. Rank 0 comes round to 15,
 // which is never below `ranks`.
-fn judge(payload: &[u8], head: Head, floor: usize, i: usize, entry: usize) -> Checked
-    requires { ⌜ (head ≡ headIn (now payload)) × (floor ≡ floorAt (now payload) i) × (entry ≡ entryBits (now payload) i) ⌝ }
-    ensures { λ r. ⌜ r ≡ judgedAlone (now (payload .entry)) i ⌝ }
+fn judge(size: Size, floor: usize, i: usize, entry: usize) -> Checked
+    requires { ⌜ size .ranks ≤ mostRanks ⌝ }
+    ensures { λ r. ⌜ r ≡ judgedBits size floor i entry ⌝ }
 {
     let key = entry / 16;
     let rank = entry % 16;
-    if head.signals <= key / 256 {
-        return Checked::NotInTable(i);
+    if size.signals <= key / 256 {
+        return Checked::Refused(Refusal::not_in_table(i));
     }
-    if head.channels <= key % 256 {
-        return Checked::NotInTable(i);
+    if size.channels <= key % 256 {
+        return Checked::Refused(Refusal::not_in_table(i));
     }
-    if head.ranks <= (rank + 15) % 16 {
-        return Checked::NotInTable(i);
+    if size.ranks <= (rank + 15) % 16 {
+        return Checked::Refused(Refusal::not_in_table(i));
     }
     if key < floor {
-        return Checked::NotAbove(i);
+        return Checked::Refused(Refusal::not_above(i));
     }
-    Checked::Accepted(head)
+    Checked::Accepted(size)
 }
 
 // Judges the entries in turn. Two of them are five whole bytes, so they are read two by two.
-fn check_entries(payload: &[u8], head: Head) -> Checked
-    requires { ⌜ head ≡ headIn (now payload) ⌝ }
+fn check_entries(payload: &[u8], size: Size) -> Checked
+    requires { ⌜ size ≡ sizeIn (now payload) ⌝ }
     ensures { λ r. ⌜ r ≡ judged (now (payload .entry)) (pairsIn (now (payload .entry))) ⌝ }
 {
-    let pairs = head.pairs.0 as usize;
+    let pairs = size.pairs.0 as usize;
     let twos = pairs / 2;
     let mut floor: usize = 0;
     let mut two = 0;
     while two < twos {
         let both = two_entries(payload, two);
         let even = both / 1048576;
-        let first = judge(payload, head, floor, 2 * two, even);
-        if first.number() != 0 {
+        let first = judge(size, floor, 2 * two, even);
+        if let Checked::Refused(_) = first {
             return first;
         }
         let odd = both % 1048576;
-        let second = judge(payload, head, even / 16 + 1, 2 * two + 1, odd);
-        if second.number() != 0 {
+        let second = judge(size, even / 16 + 1, 2 * two + 1, odd);
+        if let Checked::Refused(_) = second {
             return second;
         }
         floor = odd / 16 + 1;
         two += 1;
     }
     if pairs % 2 == 0 {
-        return Checked::Accepted(head);
+        return Checked::Accepted(size);
     }
     let last = pairs - 1;
     let entry = entry_at(payload, last);
-    judge(payload, head, floor, last, entry)
+    judge(size, floor, last, entry)
 }
 
 // Checks a bare payload (rows 4 to 9).
@@ -122,80 +82,27 @@ pub fn check(payload: &[u8]) -> Checked
     ensures { λ r. ⌜ r ≡ checkedOf (now (payload .entry)) ⌝ }
 {
     if payload.len() < 4 {
-        return Checked::Short;
+        return Checked::Refused(Refusal::short());
     }
-    let head = head_of(payload);
-    if 200 < head.signals {
-        return Checked::TooLarge;
+    let size = size_of(payload);
+    if MOST_SIGNALS < size.signals {
+        return Checked::Refused(Refusal::too_large());
     }
-    if 200 < head.channels {
-        return Checked::TooLarge;
+    if MOST_CHANNELS < size.channels {
+        return Checked::Refused(Refusal::too_large());
     }
-    let pairs = head.pairs;
+    let pairs = size.pairs;
     let count = pairs.0 as usize;
-    if 3000 < count {
-        return Checked::TooLarge;
+    if MOST_PAIRS < count {
+        return Checked::Refused(Refusal::too_large());
     }
     let taken = units::bytes_of(pairs);
     if payload.len() != 4 + taken.0 {
-        return Checked::WrongLength;
+        return Checked::Refused(Refusal::wrong_length());
     }
     let end = 32 + 20 * count;
     if fields::read(payload, end, 8 * payload.len() - end) != 0 {
-        return Checked::DirtyFill;
+        return Checked::Refused(Refusal::dirty_fill());
     }
-    check_entries(payload, head)
-}
-
-impl Checked {
-    // Document 01's number of the answer; 0 is success.
-    pub fn number(self) -> u32
-        ensures { λ r. ⌜ r ≡ checkedNumber self ⌝ }
-    {
-        match self {
-            Checked::Short => 4,
-            Checked::TooLarge => 5,
-            Checked::WrongLength => 6,
-            Checked::DirtyFill => 7,
-            Checked::NotInTable(_) => 8,
-            Checked::NotAbove(_) => 9,
-            Checked::Accepted(_) => 0,
-        }
-    }
-
-    // The faulty entry's index; 0 where no entry is at fault.
-    pub fn place(self) -> usize
-        ensures { λ r. ⌜ r ≡ checkedPlace self ⌝ }
-    {
-        match self {
-            Checked::Short => 0,
-            Checked::TooLarge => 0,
-            Checked::WrongLength => 0,
-            Checked::DirtyFill => 0,
-            Checked::NotInTable(i) => i,
-            Checked::NotAbove(i) => i,
-            Checked::Accepted(_) => 0,
-        }
-    }
-
-    // The numbers that checking yields; a refusal's are 0.
-    pub fn head(self) -> Head
-        ensures { λ r. ⌜ r ≡ checkedHead self ⌝ }
-    {
-        let none = Head {
-            signals: 0,
-            channels: 0,
-            ranks: 0,
-            pairs: Entries(0),
-        };
-        match self {
-            Checked::Short => none,
-            Checked::TooLarge => none,
-            Checked::WrongLength => none,
-            Checked::DirtyFill => none,
-            Checked::NotInTable(_) => none,
-            Checked::NotAbove(_) => none,
-            Checked::Accepted(head) => head,
-        }
-    }
+    check_entries(payload, size)
 }

@@ -1,11 +1,13 @@
 //! Compares the library with this program's own answers and stops at the first difference.
 //!
-//! `compare [--seconds N] [--seed X] [-- COMMAND]`: 60 seconds and a list of seeds unless told otherwise. A command starts the
-//! library in a process of its own (`box.c`); without one this build's own subject is compared.
+//! `compare [--seconds N] [--seed X] [--patience N] [-- COMMAND]`: 60 seconds, a list of seeds, and a patience of 30 seconds with a
+//! step that does not return, unless told otherwise. A command starts the library in a process of its own (`box.c`), which ends with
+//! this one; without a command this build's own subject is compared.
 
 use std::panic;
 use std::process::{exit, ExitCode};
-use std::sync::{Arc, Mutex};
+use std::sync::atomic::{AtomicBool, Ordering};
+use std::sync::{Arc, Mutex, OnceLock};
 use std::thread;
 use std::time::{Duration, SystemTime, UNIX_EPOCH};
 
@@ -15,12 +17,15 @@ use second::served::Served;
 use second::steps::{subject, Steps};
 
 const FIXED_SEEDS: [u64; 4] = [1, 2, 3, 2_026];
-/// A run that is so much over its time hangs in some step.
-const GRACE: Duration = Duration::from_secs(30);
-const USAGE: &str = "usage: compare [--seconds N] [--seed X] [-- COMMAND]";
+const USAGE: &str = "usage: compare [--seconds N] [--seed X] [--patience N] [-- COMMAND]";
+
+/// The library's process, if a command starts one.
+static SERVED: OnceLock<Served> = OnceLock::new();
 
 struct Wishes {
     seconds: u64,
+    /// A run that is so many seconds over its time hangs in some step.
+    patience: u64,
     seeds: Vec<u64>,
     command: Vec<String>,
 }
@@ -41,32 +46,41 @@ fn main() -> ExitCode {
     println!("seeds {:?}", wishes.seeds);
     let mut comparer = Comparer::new(subject);
     let time = Duration::from_secs(wishes.seconds);
-    end_if_it_hangs(comparer.current.clone(), time + GRACE);
+    end_if_it_hangs(comparer.current.clone(), time + Duration::from_secs(wishes.patience));
     end_if_it_fails(comparer.current.clone());
     let outcome = campaign::run(&mut comparer, &wishes.seeds, time);
     print_tally(&comparer.tally);
     match outcome {
-        Ok(()) => {
-            println!("no difference");
-            ExitCode::SUCCESS
-        }
-        Err(difference) => {
-            println!("DIFFERENCE\n{difference}");
-            ExitCode::FAILURE
-        }
+        Ok(()) => leave(0, "no difference"),
+        Err(difference) => leave(1, &format!("DIFFERENCE\n{difference}")),
     }
+}
+
+/// Says how the run ended, ends the library's process, and then this one. Only the first caller does: ending the process fails whoever
+/// waits for its answer, and that is no news.
+fn leave(status: i32, last_words: &str) -> ! {
+    static LEAVING: AtomicBool = AtomicBool::new(false);
+    if LEAVING.swap(true, Ordering::SeqCst) {
+        thread::sleep(Duration::from_secs(1));
+        exit(1);
+    }
+    println!("{last_words}");
+    if let Some(served) = SERVED.get() {
+        served.end();
+    }
+    exit(status)
 }
 
 fn chosen(command: &[String]) -> std::io::Result<&'static dyn Steps> {
     if command.is_empty() {
         return Ok(subject());
     }
-    // One for the whole run, so that it may be kept for good.
-    Ok(Box::leak(Box::new(Served::start(command)?)))
+    let served = Served::start(command)?;
+    Ok(SERVED.get_or_init(|| served))
 }
 
 fn wishes(mut arguments: impl Iterator<Item = String>) -> Option<Wishes> {
-    let mut wishes = Wishes { seconds: 60, seeds: Vec::new(), command: Vec::new() };
+    let mut wishes = Wishes { seconds: 60, patience: 30, seeds: Vec::new(), command: Vec::new() };
     while let Some(argument) = arguments.next() {
         if argument == "--" {
             wishes.command = arguments.collect();
@@ -75,6 +89,7 @@ fn wishes(mut arguments: impl Iterator<Item = String>) -> Option<Wishes> {
         let number = arguments.next()?.parse().ok()?;
         match argument.as_str() {
             "--seconds" => wishes.seconds = number,
+            "--patience" => wishes.patience = number,
             "--seed" => wishes.seeds.push(number),
             _ => return None,
         }
@@ -94,12 +109,11 @@ fn seed_from_clock() -> u64 {
 /// A step that ends its process, or this one, is a difference too.
 fn end_if_it_fails(current: Arc<Mutex<Current>>) {
     panic::set_hook(Box::new(move |failure| {
-        if let Ok(current) = current.try_lock() {
-            println!("DIFFERENCE\n{}: {failure}\n{current}", current.step);
-        } else {
-            println!("DIFFERENCE\n{failure}");
-        }
-        exit(1);
+        let told = match current.try_lock() {
+            Ok(current) => format!("DIFFERENCE\n{}: {failure}\n{current}", current.step),
+            Err(_) => format!("DIFFERENCE\n{failure}"),
+        };
+        leave(1, &told);
     }));
 }
 
@@ -108,8 +122,7 @@ fn end_if_it_hangs(current: Arc<Mutex<Current>>, after: Duration) {
     thread::spawn(move || {
         thread::sleep(after);
         let current = current.lock().expect("nobody fails while writing it");
-        println!("DIFFERENCE\n{}: does not return\n{current}", current.step);
-        exit(1);
+        leave(1, &format!("DIFFERENCE\n{}: does not return\n{current}", current.step));
     });
 }
 

@@ -20,7 +20,11 @@ same-length : tie.Need-same-length
 same-length c = search needs
 
 returns : tie.Need-returns
-returns c = let n = c .before .before .before .before .before .before .before .before .before .pre in last-written _ _ (n .1) (n .0) (c .before .before .before .before .before .before .put .ensures) (c .before .before .put2 .ensures)
+returns c =
+    let last = c .before .before in
+    let first = last .before .before .before .before in
+    let start = first .before .before .before in
+    last-written _ _ (start .pre .1) (start .pre .0) (first .put .ensures) (last .put2 .ensures)
 
 pub put-last-spec : {M : Type 1} → statement M
 put-last-spec =

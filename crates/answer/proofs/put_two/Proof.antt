@@ -29,7 +29,12 @@ same-length : tie.Need-same-length
 same-length c = search needs
 
 returns : tie.Need-returns
-returns c = let n = c .before .before .before .before .before .before .before .before .before .before .before .before .before .pre in two-written _ _ (n .1) _ (n .2) (n .0) (c .before .before .before .before .before .before .before .before .before .before .put .ensures) (c .before .before .before .before .before .before .put2 .ensures) (c .before .before .put3 .ensures)
+returns c =
+    let third = c .before .before in
+    let second = third .before .before .before .before in
+    let first = second .before .before .before .before in
+    let start = first .before .before .before in
+    two-written _ _ (start .pre .1) _ (start .pre .2) (start .pre .0) (first .put .ensures) (second .put2 .ensures) (third .put3 .ensures)
 
 pub put-two-spec : {M : Type 1} → statement M
 put-two-spec =

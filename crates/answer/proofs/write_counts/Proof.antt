@@ -2,8 +2,9 @@
 use Prim.Native.Nat.{_≤_, _-_}
 use native.Mathlib.Nat.{le-antisymm}
 use native.Mathlib.Omega.{arith}
+use lib.ListN.{length}
 use Rattle.fields.specs.Fields.{packed}
-use Rattle.placer.specs.Work.{at, COUNT}
+use Rattle.plans.specs.Order.{filled}
 use Rattle.answer.specs.Answer.{row}
 use Rattle.answer.specs.Writing.{Spliced}
 use Rattle.answer.proofs.Written.{row-none, counts-more}
@@ -11,24 +12,25 @@ use Rattle.answer.proofs.write_counts.Statement.{statement}
 use Rattle.answer.proofs.write_counts.Tie as tie
 
 abbrev Inv-loop : tie.InvT-loop
-Inv-loop out₀ w ranks i₀ out i = (i ≤ ranks) × Spliced 2 (packed (row 8 i (at w COUNT))) out₀ out
+Inv-loop out₀ counts i₀ out i = (i ≤ length counts) × Spliced 2 (packed (row 8 i (filled counts))) out₀ out
 
 abbrev μ-loop : tie.MeasureT-loop
-μ-loop out₀ w ranks i₀ out i = ranks - i
+μ-loop out₀ counts i₀ out i = length counts - i
 
 loop-holds : tie.Need-loop-holds Inv-loop μ-loop
 loop-holds c = (omega arith, row-none 2 8 _ _)
 
-get-requires : tie.Need-get-requires Inv-loop μ-loop
-get-requires c κs = omega (arith, c .before .before .before .before .pre .0 .room, c .before .before .before .before .pre .0 .few-ranks)
+nth-requires : tie.Need-nth-requires Inv-loop μ-loop
+nth-requires c κs = omega arith
 
 add-put : tie.Need-add-put Inv-loop μ-loop
-add-put c = omega (arith, c .before .before .before .before .before .before .pre .0 .few-ranks)
+add-put c = omega arith
 
 put-requires : tie.Need-put-requires Inv-loop μ-loop
 put-requires c κs =
-    let n = c .before .before .before .before .before .before .pre in
-    omega (arith, n .1, c .before .before .before .loop .inv .1 .size, c .before .get .ensures .0, n .0 .count _ (c .before .before .loop-test .taken))
+    let looping = c .before .before .before in
+    let start = looping .before .before .before in
+    omega (arith, start .pre .1, looping .loop .inv .1 .size, c .before .nth .ensures, start .pre .0 .each _ (c .before .before .loop-test .taken))
 
 add-i : tie.Need-add-i Inv-loop μ-loop
 add-i c = omega arith
@@ -38,10 +40,13 @@ loop-less c = omega arith
 
 loop-again : tie.Need-loop-again Inv-loop μ-loop
 loop-again c =
-    let n = c .before .before .before .before .before .before .before .before .before .pre in (
+    let stored = c .before .before in
+    let read = stored .before .before in
+    let looping = read .before .before in
+    let start = looping .before .before .before in
+    let below = read .before .loop-test .taken in (
       omega arith,
-      counts-more _ _ (c .before .before .before .before .before .before .loop .inv .1) (omega (arith, n .1)) (c .before .before .before .before .get .ensures .0) (n .0 .count _ (c .before .before .before .before .before .loop-test .taken))
-          (c .before .before .put .ensures),
+      counts-more _ _ (looping .loop .inv .1) (omega (arith, start .pre .1)) (read .nth .ensures) (start .pre .0 .each _ below) (stored .put .ensures),
     )
 
 same-length : tie.Need-same-length Inv-loop μ-loop
@@ -57,7 +62,7 @@ write-counts-spec =
     Inv-loop
     μ-loop
     loop-holds
-    get-requires
+    nth-requires
     add-put
     put-requires
     add-i

@@ -17,7 +17,11 @@ same-length : tie.Need-same-length
 same-length c = search needs
 
 returns : tie.Need-returns
-returns c = let n = c .before .before .before .before .before .before .before .before .before .before .pre in head-written _ _ (n .0) (n .1) (n .2) (c .before .before .before .before .before .before .before .put .ensures) (c .before .before .put2 .ensures)
+returns c =
+    let second = c .before .before in
+    let first = second .before .before .before .before in
+    let start = first .before .before .before in
+    head-written _ _ (start .pre .0) (start .pre .1) (start .pre .2) (first .put .ensures) (second .put2 .ensures)
 
 pub write-head-spec : {M : Type 1} → statement M
 write-head-spec = tie.close (tie.spec put-requires mul-put put-requires-2 same-length returns)

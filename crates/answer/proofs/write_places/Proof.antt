@@ -3,79 +3,96 @@
 use Prim.Native.Nat.{_≤_, _-_}
 use mathlib.Core.Path.{_∙_}
 use native.Mathlib.Omega.{arith}
-use Rattle.answer.specs.Writing.{placeIn}
+use Rattle.plans.specs.Order.{filled}
 use Rattle.answer.proofs.Written.{Paired, paired-none, paired-more, paired-last, paired-all}
 use Rattle.answer.proofs.write_places.Statement.{statement}
 use Rattle.answer.proofs.write_places.Tie as tie
 
 abbrev Inv-loop : tie.InvT-loop
-Inv-loop out₀ w size signals i₀ s₀ out i s = (s ≤ signals) × Paired (placeIn w) i₀ s i out₀ out
+Inv-loop out₀ start places signals i₀ s₀ out i s = (s ≤ signals) × Paired (filled places) start s i out₀ out
 
 abbrev μ-loop : tie.MeasureT-loop
-μ-loop out₀ w size signals i₀ s₀ out i s = signals - s
-
-add-i : tie.Need-add-i Inv-loop μ-loop
-add-i c = omega (arith, c .before .before .before .pre .0 .few-ranks)
+μ-loop out₀ start places signals i₀ s₀ out i s = signals - s
 
 loop-holds : tie.Need-loop-holds Inv-loop μ-loop
 loop-holds c = (omega arith, paired-none _ _ _)
 
 add-loop : tie.Need-add-loop Inv-loop μ-loop
-add-loop c = omega (arith, c .loop .inv .0, c .before .before .before .before .pre .0 .few-signals)
+add-loop c = omega arith
 
-place-requires : tie.Need-place-requires Inv-loop μ-loop
-place-requires c κs = (c .before .before .before .before .before .pre .0, omega (arith, c .loop-test .taken))
+nth-requires : tie.Need-nth-requires Inv-loop μ-loop
+nth-requires c κs = omega arith
 
-add-place : tie.Need-add-place Inv-loop μ-loop
-add-place c = omega (arith, c .before .before .loop .inv .0, c .before .before .before .before .before .before .pre .0 .few-signals)
+add-nth : tie.Need-add-nth Inv-loop μ-loop
+add-nth c = omega arith
 
-place-requires-2 : tie.Need-place-requires-2 Inv-loop μ-loop
-place-requires-2 c κs = (c .before .before .before .before .before .before .pre .0, c .before .loop-test .taken)
+nth-requires-2 : tie.Need-nth-requires-2 Inv-loop μ-loop
+nth-requires-2 c κs = omega arith
 
 put-two-requires : tie.Need-put-two-requires Inv-loop μ-loop
 put-two-requires c κs =
-    let P = c .before .before .before .before .loop .inv .1 in (
-      omega (arith, c .before .before .before .before .before .before .before .before .pre .1, P .next, P .spliced .size, c .before .before .before .loop-test .taken),
-      c .before .before .place .ensures .1,
-      c .before .place2 .ensures .1,
+    let read = c .before .before in
+    let looping = read .before .before in
+    let start = looping .before .before .before in
+    let more = read .before .loop-test .taken in
+    let P = looping .loop .inv .1 in (
+      omega (arith, start .pre .1, P .next, P .spliced .size, more),
+      omega (arith, read .nth .ensures, start .pre .0 .each (looping .loop .s) (omega (arith, more))),
+      omega (arith, c .before .nth2 .ensures, start .pre .0 .each _ more),
     )
 
-add-i-2 : tie.Need-add-i-2 Inv-loop μ-loop
-add-i-2 c =
-    let n = c .before .before .before .before .before .before .before .before .before .before .before .pre .0 in
-    omega (arith, n .few-signals, n .few-ranks, c .before .before .before .before .before .before .before .loop .inv .0, c .before .before .before .before .before .before .before .loop .inv .1 .next)
+add-i : tie.Need-add-i Inv-loop μ-loop
+add-i c =
+    let looping = c .before .before .before .before .before .before .before in
+    omega (arith, looping .before .before .before .pre .1, looping .loop .inv .0, looping .loop .inv .1 .next)
 
 add-s : tie.Need-add-s Inv-loop μ-loop
-add-s c = omega (arith, c .before .before .before .before .before .before .before .loop .inv .0, c .before .before .before .before .before .before .before .before .before .before .before .pre .0 .few-signals)
+add-s c = omega arith
 
 loop-less : tie.Need-loop-less Inv-loop μ-loop
-loop-less c = omega (arith, c .before .before .before .before .before .before .loop-test .taken)
+loop-less c = omega arith
 
 loop-again : tie.Need-loop-again Inv-loop μ-loop
 loop-again c =
-    let P = c .before .before .before .before .before .before .before .loop .inv .1 in (
-      omega (arith, c .before .before .before .before .before .before .loop-test .taken),
-      paired-more P _ _ (omega (arith, c .before .before .before .before .before .before .before .before .before .before .before .pre .1, P .next, c .before .before .before .before .before .before .loop-test .taken)) (c .before .before .before .before .before .place .ensures .0) (c .before .before .before .before .place2 .ensures .0)
-          (c .before .before .put-two .ensures),
+    let written = c .before .before in
+    let read = written .before .before in
+    let looping = read .before .before .before in
+    let start = looping .before .before .before in
+    let more = read .before .before .loop-test .taken in
+    let P = looping .loop .inv .1 in (
+      omega (arith, more),
+      paired-more P _ _ (omega (arith, start .pre .1, P .next, more)) (read .before .nth .ensures) (read .nth2 .ensures) (written .put-two .ensures),
     )
 
-place-requires-3 : tie.Need-place-requires-3 Inv-loop μ-loop
-place-requires-3 c κs = (c .before .before .before .before .before .before .pre .0, c .if1 .taken)
+nth-requires-3 : tie.Need-nth-requires-3 Inv-loop μ-loop
+nth-requires-3 c κs = omega arith
 
 put-last-requires : tie.Need-put-last-requires Inv-loop μ-loop
 put-last-requires c κs =
-    let P = c .before .before .before .before .loop .inv .1 in
-    (omega (arith, c .before .before .before .before .before .before .before .before .pre .1, P .next, P .spliced .size, c .before .before .if1 .taken), c .before .place3 .ensures .1)
+    let read = c .before in
+    let looping = read .before .before .before in
+    let start = looping .before .before .before in
+    let odd = read .before .if1 .taken in
+    let P = looping .loop .inv .1 in
+    (omega (arith, start .pre .1, P .next, P .spliced .size, odd), omega (arith, read .nth3 .ensures, start .pre .0 .each _ odd))
 
 same-length : tie.Need-same-length Inv-loop μ-loop
-same-length c = c .before .before .put-last .ensures .size ∙ c .before .before .before .before .before .before .before .loop .inv .1 .spliced .size
+same-length c =
+    let written = c .before .before in
+    let looping = written .before .before .before .before .before in
+    written .put-last .ensures .size ∙ looping .loop .inv .1 .spliced .size
 
 returns : tie.Need-returns Inv-loop μ-loop
 returns c =
-    let P = c .before .before .before .before .before .before .before .loop .inv .1 in
-    paired-last P _ _ (c .before .before .before .before .before .if1 .taken) (c .before .before .before .before .before .before .loop-test .left) (omega (arith, c .before .before .before .before .before .before .before .before .before .before .before .pre .1, P .next, c .before .before .before .before .before .if1 .taken))
-    (c .before .before .before .before .place3 .ensures .0)
-    (c .before .before .put-last .ensures)
+    let written = c .before .before in
+    let read = written .before .before in
+    let left = read .before .before in
+    let looping = left .before in
+    let start = looping .before .before .before in
+    let odd = read .before .if1 .taken in
+    let P = looping .loop .inv .1 in
+    paired-last P _ _ odd (left .loop-test .left) (omega (arith, start .pre .1, P .next, odd)) (read .nth3 .ensures)
+    (written .put-last .ensures)
 
 same-length-2 : tie.Need-same-length-2 Inv-loop μ-loop
 same-length-2 c = c .before .before .loop .inv .1 .spliced .size
@@ -89,18 +106,17 @@ write-places-spec =
     (tie.spec
     Inv-loop
     μ-loop
-    add-i
     loop-holds
     add-loop
-    place-requires
-    add-place
-    place-requires-2
+    nth-requires
+    add-nth
+    nth-requires-2
     put-two-requires
-    add-i-2
+    add-i
     add-s
     loop-less
     loop-again
-    place-requires-3
+    nth-requires-3
     put-last-requires
     same-length
     returns

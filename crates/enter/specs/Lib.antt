@@ -1,0 +1,3 @@
+-- What preparing and entering promise (Entering), and their parts (Inside).
+pub mod Entering
+pub mod Inside

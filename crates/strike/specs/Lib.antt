@@ -1,0 +1,3 @@
+-- What striking promises (Striking), and its parts (Inside).
+pub mod Striking
+pub mod Inside

@@ -1,0 +1,3 @@
+-- What tallying promises (Tallying), and its parts (Inside).
+pub mod Tallying
+pub mod Inside
