@@ -16,7 +16,8 @@ struct slice {
 };
 
 struct size {
-    size_t signals, channels, ranks, pairs;
+    size_t signals, channels, ranks;
+    uint16_t pairs;
 };
 
 /* Room for what checking comes to, which is not looked at here. */
@@ -28,7 +29,7 @@ void step_check(struct checked *, const struct slice *payload);
 void step_unpack(const struct slice *payload, const struct slice *work, const struct size *);
 void step_place(const struct slice *work, const struct size *);
 void step_tally(const struct slice *work, const struct size *);
-void step_write(const struct slice *out, const struct slice *work, const struct size *);
+void step_write_payload(const struct slice *out, const struct slice *work, size_t signals, size_t ranks);
 void step_zero(const struct slice *work);
 
 enum { NOTHING, CHECK, UNPACK, PLACE, TALLY, WRITE, ZERO, STEPS };
@@ -60,7 +61,7 @@ static void command(const struct slice *payload, const struct size *size, double
     ends[PLACE] = microseconds();
     step_tally(&w, size);
     ends[TALLY] = microseconds();
-    step_write(&o, &w, size);
+    step_write_payload(&o, &w, size->signals, size->ranks);
     ends[WRITE] = microseconds();
     step_zero(&w);
     ends[ZERO] = microseconds();
@@ -84,7 +85,7 @@ int main(int count, char **words)
     struct graupenzelt_opened opened = graupenzelt_open(block, n);
     struct graupenzelt_checked table = graupenzelt_check(block + opened.start, opened.length);
     const struct slice payload = {block + opened.start, opened.length};
-    const struct size size = {table.signals, table.channels, table.ranks, table.pairs};
+    const struct size size = {table.signals, table.channels, table.ranks, (uint16_t)table.pairs};
 
     double shortest[STEPS], ends[STEPS];
     for (int step = 0; step < STEPS; step++)
@@ -105,8 +106,8 @@ int main(int count, char **words)
         puts("the steps come to another answer than the command");
         return 1;
     }
-    printf("%zu signals, %zu channels, %zu ranks, %zu pairs: microseconds, the shortest of %d\n", size.signals, size.channels,
-           size.ranks, size.pairs, REPETITIONS);
+    printf("%zu signals, %zu channels, %zu ranks, %u pairs: microseconds, the shortest of %d\n", size.signals, size.channels,
+           size.ranks, (unsigned)size.pairs, REPETITIONS);
     for (int step = 0; step < STEPS; step++)
         printf("%-20s %8.2f\n", names[step], shortest[step]);
     return 0;

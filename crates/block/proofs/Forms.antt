@@ -17,7 +17,7 @@ use Rattle.opening.specs.declared.headers.Header.{Header}
 use Rattle.opening.specs.declared.headers.Header.the-variants.{NoMark, NoDigit, OpenEnded, Counted}
 use Rattle.opening.specs.declared.Opening.{Opening}
 use Rattle.opening.specs.declared.Opening.the-variants.{Refused}
-use Rattle.opening.specs.Header.{headerIn, counting, Counts, HeaderSays}
+use Rattle.opening.specs.Header.{OpenHeader, headerIn, counting, Counts, HeaderSays}
 use Rattle.opening.specs.Opening.{endedOf, countedOf, openingBy, openingOf, openingRefusal, openingStart, openingLength, payloadOf, from}
 use Rattle.opening.proofs.Digits.{header-inside}
 use Rattle.opening.proofs.Reading.{header-says, header-ended, counts-header}
@@ -70,7 +70,7 @@ ended-rest t e =
     ∙ ap (λ (l : List ℕ). getD t n 0 ∷ l) (drop-of-length-le t {i = suc n} (omega arith))
     ∙ ap (λ (b : ℕ). b ∷ []) (index-at 10 t (omega arith)))
 
-module _ (s : List ℕ) (mark : getD s 0 0 ≡ 35) (form : getD s 1 0 ≡ 48) where
+module _ (s : List ℕ) (header : OpenHeader s) where
   ended-form : Marks OpenEndedForm s (endedOf s)
   unfolding Marks endedOf from
   ended-form = go (eqb (2 + n + 1) (length s)) refl
@@ -82,8 +82,7 @@ module _ (s : List ℕ) (mark : getD s 0 0 ≡ 35) (form : getD s 1 0 ≡ 48) wh
       go true e z =
           let whole : n + 1 ≡ length (drop 2 s) = omega (arith, length-drop 2 s, eqb-true (2 + n + 1) (length s) e) in
           record {
-            mark = mark;
-            form = form;
+            header = header;
             rest = ended-rest (drop 2 s) whole;
             plain = λ i l h. index-before 10 (drop 2 s) i (omega (arith, length-take n (drop 2 s))) (sym (getD-take n (drop 2 s) i 0 (omega (arith, length-take n (drop 2 s)))) ∙ h);
           }
@@ -106,26 +105,16 @@ counted-form s start n f = go (eqb (start + n) (length s)) refl
     go true e z =
         let size : length (drop start s) ≡ n = omega (arith, length-drop start s, eqb-true (start + n) (length s) e) in
         let whole : take n (drop start s) ≡ drop start s = take-all n (drop start s) (omega arith) in
-        record {
-          k = f .k;
-          some = f .some;
-          few = f .few;
-          mark = f .mark;
-          form = f .form;
-          digits = f .digits;
-          counts = rw whole (sym (f .value) ∙ sym size);
-          rest = ap (λ (i : ℕ). drop i s) (sym (f .at)) ∙ sym whole;
-        }
+        record { start = start; header = rw (whole, size) f; rest = sym whole }
     go false e z = absurd (omega (arith, z))
 
-definite-opens : (s p : List ℕ) (f : DefiniteForm s p) → openingOf s ≡ from (2 + f .k) (length p)
+definite-opens : (s p : List ℕ) (f : DefiniteForm s p) → openingOf s ≡ from (f .start) (length p)
 unfolding openingBy counting
 definite-opens s p f =
-    let size : length s - (2 + f .k) ≡ length p = sym (length-drop (2 + f .k) s) ∙ ap length (f .rest) in
-    let header : Counts s (2 + f .k) (length p) =
-    record { k = f .k; some = f .some; few = f .few; mark = f .mark; form = f .form; digits = f .digits; at = refl; value = sym (f .counts) } in
-    opening-from s (headerIn s) (counting (2 + f .k) (length p)) refl (counts-header s header)
-    ∙ counted-ends s (2 + f .k) (length p) (omega (arith, header-inside s (f .k) (f .some) (f .digits)))
+    let h = f .header in
+    let size : length s - f .start ≡ length p = sym (length-drop (f .start) s) ∙ ap length (f .rest) in
+    opening-from s (headerIn s) (counting (f .start) (length p)) refl (counts-header s h)
+    ∙ counted-ends s (f .start) (length p) (omega (arith, size, h .at, header-inside s (h .k) (h .some) (h .digits)))
 
 -- Either form
 
@@ -133,7 +122,7 @@ marks-by : (s : List ℕ) (h : Header) → HeaderSays s h → Marks Block s (ope
 unfolding HeaderSays openingBy Marks
 marks-by s NoMark f z = absurd (omega (arith, z))
 marks-by s (NoDigit i) f z = absurd (omega (arith, z))
-marks-by s OpenEnded f z = openEnded (ended-form s (f .mark) (f .form) z)
+marks-by s OpenEnded f z = openEnded (ended-form s f z)
 marks-by s (Counted start n) f z = definite (counted-form s start (n .0) f z)
 
 -- Main results
@@ -147,12 +136,12 @@ opened-form s = marks-by s (headerIn s) (header-says s)
 pub form-opened : (s p : List ℕ) → Block s p → HandsBack s p
 unfolding payloadOf from openingBy
 form-opened s p (definite f) =
-    let e : openingOf s ≡ from (2 + f .k) (length p) = definite-opens s p f in
+    let e : openingOf s ≡ from (f .start) (length p) = definite-opens s p f in
     record {
       succeeds = ap openingRefusal e;
-      payload = rw e (take-all (length p) (drop (2 + f .k) s) (rw (f .rest) (omega arith)) ∙ f .rest);
+      payload = rw e (take-all (length p) (drop (f .start) s) (rw (f .rest) (omega arith)) ∙ f .rest);
     }
 form-opened s p (openEnded f) =
     let e : openingOf s ≡ from 2 (length p) =
-    opening-from s (headerIn s) OpenEnded refl (header-ended s (f .mark) (f .form)) ∙ ended-opens s p f in
+    opening-from s (headerIn s) OpenEnded refl (header-ended s (f .header .mark) (f .header .form)) ∙ ended-opens s p f in
     record { succeeds = ap openingRefusal e; payload = rw e (rw (f .rest) (take-at p (10 ∷ []) (length p) refl)) }

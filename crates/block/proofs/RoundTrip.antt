@@ -94,13 +94,18 @@ module _ (p : List ℕ) (short : length p ≤ longest) where
   unfolding blockOf headerOf
   framed-definite =
       record {
-        k = widthOf (length p);
-        some = w .some;
-        few = omega (arith, w .few);
-        mark = refl;
-        form = refl;
-        digits = read .0;
-        counts = read .1;
+        start = 2 + widthOf (length p);
+        header =
+            record {
+              k = widthOf (length p);
+              some = w .some;
+              few = omega (arith, w .few);
+              mark = refl;
+              form = refl;
+              digits = read .0;
+              at = refl;
+              value = sym (read .1);
+            };
         rest = drop-at (headerOf (length p)) p (2 + widthOf (length p)) (header-size (length p));
       }
 
@@ -112,10 +117,12 @@ module _ (p : List ℕ) (short : length p ≤ longest) where
   pub framed-shortest : (s : List ℕ) → DefiniteForm s p → length (blockOf p) ≤ length s
   unfolding blockLength headerLength
   framed-shortest s f =
+      let h = f .header in
       omega (
         arith,
         length-block p,
-        sym (length-drop (2 + f .k) s) ∙ ap length (f .rest),
-        header-inside s (f .k) (f .some) (f .digits),
-        w .least (f .k) (f .some) (omega (arith, f .counts, count-below s (f .k) (f .digits))),
+        sym (length-drop (f .start) s) ∙ ap length (f .rest),
+        h .at,
+        header-inside s (h .k) (h .some) (h .digits),
+        w .least (h .k) (h .some) (omega (arith, h .value, count-below s (h .k) (h .digits))),
       )

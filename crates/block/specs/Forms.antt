@@ -1,29 +1,22 @@
 -- The two forms of a block, as document 01 describes them and whatever opens it: s is a block, p the payload that it marks; and what
 -- it means that opening hands a payload back.
-use Prim.Native.Nat.{ℕ, _+_, _≤_, _<_}
+use Prim.Native.Nat.{ℕ, _<_}
 use mathlib.Core.Path.{_≡_}
-use mathlib.Core.Bool.{true}
 use mathlib.Core.List.{List, [], _∷_, _++_}
 use lib.ListN.{length, getD, drop}
 use Rattle.units.specs.Refusals.{success}
-use Rattle.opening.specs.Header.{digitsAt2, countAt2}
+use Rattle.opening.specs.Header.{OpenHeader, Counts}
 use Rattle.opening.specs.Opening.{openingOf, openingRefusal, payloadOf}
 
--- Definite: `#`, a digit k from 1 to 9, k digits that count the bytes of the payload, then the payload and nothing more.
+-- Definite: a header that counts the bytes of the payload, from index `start` on, then the payload and nothing more.
 pub record DefiniteForm (s p : List ℕ) : Type 0 where
-  pub k : ℕ
-  pub some : 1 ≤ k
-  pub few : k ≤ 9
-  pub mark : getD s 0 0 ≡ 35
-  pub form : getD s 1 0 ≡ 48 + k
-  pub digits : digitsAt2 s k ≡ true
-  pub counts : countAt2 s k ≡ length p
-  pub rest : drop (2 + k) s ≡ p
+  pub start : ℕ
+  pub header : Counts s start (length p)
+  pub rest : drop start s ≡ p
 
 -- Open-ended: `#0`, then a payload without a newline, then a newline and nothing more.
 pub record OpenEndedForm (s p : List ℕ) : Type 0 where
-  pub mark : getD s 0 0 ≡ 35
-  pub form : getD s 1 0 ≡ 48
+  pub header : OpenHeader s
   pub rest : drop 2 s ≡ p ++ (10 ∷ [])
   pub plain : (i : ℕ) → i < length p → getD p i 0 ≡ 10 → ⊥
 

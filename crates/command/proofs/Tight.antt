@@ -139,7 +139,8 @@ module _ (block : List ℕ) (m k : ℕ) (success : verdictOf block m k .number �
   accepted-short = go (opened-form block opens)
     where
       go : Block block (payloadOf block) → length block < 8192
-      go (definite f) = omega (arith, short-payload, f .few, sym (length-drop (2 + f .k) block) ∙ ap length (f .rest))
+      go (definite f) =
+          omega (arith, short-payload, f .header .at, f .header .few, sym (length-drop (f .start) block) ∙ ap length (f .rest))
       go (openEnded f) =
           omega (arith, short-payload, sym (length-drop 2 block) ∙ ap length (f .rest) ∙ length-append (payloadOf block) (10 ∷ []))
 

@@ -4,6 +4,7 @@ use mathlib.Core.Path.{_≡_}
 use mathlib.Core.Bool.{Bool, true}
 use mathlib.Core.List.{List}
 use Rattle.plans.specs.Numbers.{same}
+use Rattle.units.specs.Limits.{mostSignals, mostPairs}
 use Rattle.work.specs.Work.{at, none, START, MIDDLE, LIVE, END, CHANNEL, SIGNAL, SHUT-SIGNAL, SHUT-CHANNEL, FROM, WHOLE, Unchanged}
 
 -- The first n signals have an empty list, no channel, and are not shut.
@@ -29,8 +30,8 @@ pub record Joined (s c : ℕ) (v w : List ℕ) : Type 0 where
   pub open-channel : at v SHUT-CHANNEL c ≡ 0
   pub longer : at w END s ≡ suc (at v END s)
   pub last : at w LIVE (at v END s) ≡ c
-  pub other-ends : (t : ℕ) → t < 200 → (t ≡ s → ⊥) → at w END t ≡ at v END t
-  pub other-positions : (p : ℕ) → p < 3000 → (p ≡ at v END s → ⊥) → at w LIVE p ≡ at v LIVE p
+  pub other-ends : (t : ℕ) → t < mostSignals → (t ≡ s → ⊥) → at w END t ≡ at v END t
+  pub other-positions : (p : ℕ) → p < mostPairs → (p ≡ at v END s → ⊥) → at w LIVE p ≡ at v LIVE p
 
 -- Signal s or channel c is shut, and nothing is changed.
 pub record LeftOut (s c : ℕ) (v w : List ℕ) : Type 0 where

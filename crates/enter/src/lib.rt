@@ -6,7 +6,8 @@ ghost use mathlib.Core.Path.{_≡_};
 ghost use mathlib.Core.Bool.{false};
 ghost use Prim.Native.Nat.{_≤_, _<_};
 ghost use lib.ListN.{length};
-ghost use Rattle.work.specs.Work.{at, END, signalAt, channelAt};
+ghost use Rattle.units.specs.Limits.{mostSignals, mostPairs};
+ghost use Rattle.work.specs.Work.{at, END, signalAt, channelAt, NUMBERS};
 ghost use Rattle.work.specs.Input.{Input};
 ghost use Rattle.work.specs.State.{Lists};
 ghost use Rattle.enter.specs.Entering.{Room, Entered, Quiet};
@@ -40,7 +41,7 @@ pub fn enter(w: &mut [u16], size: Size, rank: usize) -> bool
 // A pair joins its signal's list, unless an end of it is shut; one test of both flags, since neither can be foretold. Says
 // whether it, or any before it, did.
 fn enter_pair(w: &mut [u16], e: usize, any: bool) -> bool
-    requires { ⌜ (16384 ≤ length (now w)) × (e < 3000) × (signalAt (now w) e < 200) × (at (now w) END (signalAt (now w) e) < 3000) ⌝ }
+    requires { ⌜ (NUMBERS ≤ length (now w)) × (e < mostPairs) × (signalAt (now w) e < mostSignals) × (at (now w) END (signalAt (now w) e) < mostPairs) ⌝ }
     ensures { λ r. ⌜ EnteredPair any r (signalAt (now (w .entry)) e) (channelAt (now (w .entry)) e) (now (w .entry)) (now (w .exit)) ⌝ }
 {
     let pair = get(w, PAIR, e);

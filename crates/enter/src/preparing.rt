@@ -1,6 +1,8 @@
 // The work area is made ready: empty lists, nobody placed, nothing shut, no marks.
 ghost use Prim.Native.Nat.{_≤_};
 ghost use lib.ListN.{length};
+ghost use Rattle.units.specs.Limits.{mostSignals, mostChannels};
+ghost use Rattle.work.specs.Work.{NUMBERS};
 ghost use Rattle.work.specs.Input.{Input};
 ghost use Rattle.enter.specs.Entering.{Prepared};
 ghost use Rattle.enter.specs.Inside.{SignalsReady, ChannelsReady};
@@ -25,7 +27,7 @@ pub fn prepare(w: &mut [u16], size: Size)
 }
 
 fn prepare_signals(w: &mut [u16], size: Size)
-    requires { ⌜ (16384 ≤ length (now w)) × (size .signals ≤ 200) ⌝ }
+    requires { ⌜ (NUMBERS ≤ length (now w)) × (size .signals ≤ mostSignals) ⌝ }
     ensures { λ _. ⌜ SignalsReady (size .signals) (now (w .entry)) (now (w .exit)) ⌝ }
 {
     let signals = size.signals;
@@ -40,7 +42,7 @@ fn prepare_signals(w: &mut [u16], size: Size)
 }
 
 fn prepare_channels(w: &mut [u16], size: Size)
-    requires { ⌜ (16384 ≤ length (now w)) × (size .channels ≤ 200) ⌝ }
+    requires { ⌜ (NUMBERS ≤ length (now w)) × (size .channels ≤ mostChannels) ⌝ }
     ensures { λ _. ⌜ ChannelsReady (size .channels) (now (w .entry)) (now (w .exit)) ⌝ }
 {
     let channels = size.channels;

@@ -6,6 +6,7 @@ use mathlib.Core.Bool.{Bool, true, false}
 use mathlib.Core.List.{List}
 use lib.ListN.{length, getD}
 use lib.IntN.{ℤ, pos, negsuc}
+use Rattle.units.specs.Limits.{mostSignals, mostRanks}
 use Rattle.plans.specs.Order.{Less, Same, filled}
 use Rattle.units.specs.declared.refusals.Refusal.{Refusal}
 use Rattle.units.specs.Refusals.{success, noLine}
@@ -14,14 +15,14 @@ use Rattle.lines.specs.declared.Comparison.the-variants.{Refused, Lesser
 
 -- A line holds 0 to 15 counts of 0 to 200.
 pub record Line (l : List ℕ) : Type 0 where
-  pub short : length l ≤ 15
-  pub small : (i : ℕ) → i < length l → getD l i 0 ≤ 200
+  pub short : length l ≤ mostRanks
+  pub small : (i : ℕ) → i < length l → getD l i 0 ≤ mostSignals
 
 -- The order of two lines, the shorter one filled up with zeros.
 pub record Ordered (a b : List ℕ) (r : Comparison) : Type 0 where
-  pub lesser : Less 15 (filled a) (filled b) → r ≡ Lesser
-  pub equal : Same 15 (filled a) (filled b) → r ≡ Equal
-  pub greater : Less 15 (filled b) (filled a) → r ≡ Greater
+  pub lesser : Less mostRanks (filled a) (filled b) → r ≡ Lesser
+  pub equal : Same mostRanks (filled a) (filled b) → r ≡ Equal
+  pub greater : Less mostRanks (filled b) (filled a) → r ≡ Greater
 
 -- The promise of comparing a and b: a refusal exactly where one of them is no line, and else their order.
 pub record Compares (a b : List ℕ) (r : Comparison) : Type 0 where

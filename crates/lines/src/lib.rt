@@ -2,7 +2,11 @@
 ghost use mathlib.Core.Path.{_≡_};
 ghost use Rattle.plans.specs.Order.{filled};
 ghost use Rattle.lines.specs.Comparing.{Judged, Ordered, Compares, comparisonRefusal, comparisonOrder};
+use units::MOST_RANKS;
 use units::Refusal;
+
+// The largest count: as many as there can be signals.
+const LARGEST: u8 = 200;
 
 // What comparing two lines comes to.
 pub enum Comparison {
@@ -26,12 +30,12 @@ fn count_at(line: &[u8], i: usize) -> u8
 fn is_no_line(line: &[u8]) -> bool
     ensures { λ r. ⌜ Judged (now (line .entry)) r ⌝ }
 {
-    if 15 < line.len() {
+    if MOST_RANKS < line.len() {
         return true;
     }
     let mut i = 0;
     while i < line.len() {
-        if 200 < line[i] {
+        if LARGEST < line[i] {
             return true;
         }
         i += 1;
@@ -44,7 +48,7 @@ fn order_of(a: &[u8], b: &[u8]) -> Comparison
     ensures { λ r. ⌜ Ordered (now (a .entry)) (now (b .entry)) r ⌝ }
 {
     let mut i = 0;
-    while i < 15 {
+    while i < MOST_RANKS {
         let x = count_at(a, i);
         let y = count_at(b, i);
         if x < y {

@@ -93,20 +93,20 @@ module _ (s : List ℕ) (o : Opening) (found : o ≡ openingOf s) where
 
 -- A refusal has one of the rows' numbers.
 
-Numbered : Opening → Type 0
-Numbered (Refused r) = (1 ≤ r .number) × (r .number ≤ 3)
-Numbered (Payload start n) = Unit
+OpeningNumbered : Opening → Type 0
+OpeningNumbered (Refused r) = (1 ≤ r .number) × (r .number ≤ 3)
+OpeningNumbered (Payload start n) = Unit
 
-numbered-by : (s : List ℕ) (h : Header) → Numbered (openingBy s h)
-unfolding Numbered openingBy endedOf countedOf from
-numbered-by s NoMark = (omega arith, omega arith)
-numbered-by s (NoDigit i) = (omega arith, omega arith)
-numbered-by s OpenEnded =
-    by-eqb (λ b. Numbered (cond b (from 2 (indexOf 10 (drop 2 s))) (Refused (wrongEnd 2))))
+opening-numbered : (s : List ℕ) (h : Header) → OpeningNumbered (openingBy s h)
+unfolding OpeningNumbered openingBy endedOf countedOf from
+opening-numbered s NoMark = (omega arith, omega arith)
+opening-numbered s (NoDigit i) = (omega arith, omega arith)
+opening-numbered s OpenEnded =
+    by-eqb (λ b. OpeningNumbered (cond b (from 2 (indexOf 10 (drop 2 s))) (Refused (wrongEnd 2))))
     (2 + indexOf 10 (drop 2 s) + 1) (length s) (λ e. tt) (omega arith, omega arith)
-numbered-by s (Counted start n) =
-    by-eqb (λ b. Numbered (cond b (from start (n .0)) (Refused (wrongEnd start)))) (start + n .0) (length s) (λ e. tt) (omega arith, omega arith)
+opening-numbered s (Counted start n) =
+    by-eqb (λ b. OpeningNumbered (cond b (from start (n .0)) (Refused (wrongEnd start)))) (start + n .0) (length s) (λ e. tt) (omega arith, omega arith)
 
 pub opening-refused : (s : List ℕ) {r : Refusal} → openingOf s ≡ Refused r → (1 ≤ r .number) × (r .number ≤ 3)
-unfolding openingOf Numbered
-opening-refused s {r} e = rw e at (numbered-by s (headerIn s))
+unfolding openingOf OpeningNumbered
+opening-refused s {r} e = rw e at (opening-numbered s (headerIn s))

@@ -24,7 +24,7 @@ use Rattle.strike.specs.Striking.{Struck}
 use Rattle.placer.specs.Placing.{Placed, PlacedFrom}
 use Rattle.placer.proofs.Standing.{Standing, Covering, noCovers, standing-prepared}
 use Rattle.placer.proofs.StandingStruck.{next, standing-struck, lists-struck, room-struck, along-struck}
-use Rattle.placer.proofs.StandingEntered.{standing-entered}
+use Rattle.placer.proofs.StandingEntered.{entered-mates-region, standing-entered}
 use Rattle.placer.proofs.StandingGrown.{standing-grown}
 use Rattle.placer.proofs.StandingQuiet.{standing-quiet}
 use Rattle.placer.proofs.PlacedAtEnd.{placed-of-all, placed-of-standing}
@@ -69,17 +69,14 @@ module _ {z : Size} {i : ℕ} {v w x : List ℕ} (n : Input z v) (A : After z i 
   pub entered-input : Input z x
   entered-input = same-input (E .input) now
 
-  mates-region : Unchanged CHANNEL SHUT-SIGNAL x w
-  mates-region = unchanged-part CHANNEL SHUT-SIGNAL (omega arith) (omega arith) (E .rest)
-
   pub entered-mates : Mates z x
-  entered-mates = same-mates now mates-region (A .mates)
+  entered-mates = same-mates now (entered-mates-region E) (A .mates)
 
   pub entered-along : Along z x
   entered-along =
       record {
         live = λ s l k.
-            let e : at x CHANNEL s ≡ at w CHANNEL s = unchanged-at mates-region CHANNEL s (omega arith) (omega (arith, n .limits .few-signals)) in
+            let e : at x CHANNEL s ≡ at w CHANNEL s = unchanged-at (entered-mates-region E) CHANNEL s (omega arith) (omega (arith, n .limits .few-signals)) in
             rw e (E .keeps s (at w CHANNEL s) l (A .along .live s l (omega arith)));
       }
 

@@ -23,6 +23,10 @@ use Rattle.enter.specs.Entering.{Entered}
 use Rattle.placer.proofs.Standing.{Standing, same-shut-signal, same-shut-channel}
 use Rattle.placer.proofs.StandingStruck.{next}
 
+-- Entering changes no mates.
+pub entered-mates-region : {z : Size} {r : ℕ} {v w : List ℕ} → Entered z r v w → Unchanged CHANNEL SHUT-SIGNAL w v
+entered-mates-region E = unchanged-part CHANNEL SHUT-SIGNAL (omega arith) (omega arith) (E .rest)
+
 module _ (z : Size) (rank : ℕ → ℕ → ℕ) (K : Covers) (i : ℕ) (v w : List ℕ) (n : Input z v) (r : Ranks z rank v) (inside : i < z .ranks)
     (S : Standing z rank K i i v) (E : Entered z (suc i) v w) where
   -- a pair of the next rank stands just when neither end was ever covered
@@ -35,9 +39,6 @@ module _ (z : Size) (rank : ℕ → ℕ → ℕ) (K : Covers) (i : ℕ) (v w : L
   stands-uncovered s c e st j l =
       let zero-there : under (rank s c) (suc (suc j)) ≡ 0 = under-no (rank s c) (suc (suc j)) (omega arith) in
       (omega (arith, st .allows j l), omega (arith, st .allows j l))
-
-  mates-region : Unchanged CHANNEL SHUT-SIGNAL w v
-  mates-region = unchanged-part CHANNEL SHUT-SIGNAL (omega arith) (omega arith) (E .rest)
 
   shut-region : Unchanged SHUT-SIGNAL SCRATCH w v
   shut-region = unchanged-part SHUT-SIGNAL SCRATCH (omega arith) (omega arith) (E .rest)
@@ -58,10 +59,10 @@ module _ (z : Size) (rank : ℕ → ℕ → ℕ) (K : Covers) (i : ℕ) (v w : L
   standing-entered =
       record {
         certificate = S .certificate;
-        mates = same-mates n mates-region (S .mates);
+        mates = same-mates n (entered-mates-region E) (S .mates);
         along = record {
           live = λ s l k.
-              let e : at w CHANNEL s ≡ at v CHANNEL s = same-sits n mates-region s l in
+              let e : at w CHANNEL s ≡ at v CHANNEL s = same-sits n (entered-mates-region E) s l in
               rw e (E .keeps s (at v CHANNEL s) l (S .along .live s l (omega arith)));
         };
         lists = E .lists;
@@ -78,8 +79,8 @@ module _ (z : Size) (rank : ℕ → ℕ → ℕ) (K : Covers) (i : ℕ) (v w : L
         open-channel = λ c l e. S .open-channel c l (sym (same-shut-channel n shut-region c l) ∙ e);
         never-signal = λ s l k. same-shut-signal n shut-region s l ∙ S .never-signal s l k;
         never-channel = λ c l k. same-shut-channel n shut-region c l ∙ S .never-channel c l k;
-        placed = λ j s k l m. rw (same-sits n mates-region s l) (S .placed j s k l m);
-        taken = λ j c k l m. rw (same-holds n mates-region c l) (S .taken j c k l m);
+        placed = λ j s k l m. rw (same-sits n (entered-mates-region E) s l) (S .placed j s k l m);
+        taken = λ j c k l m. rw (same-holds n (entered-mates-region E) c l) (S .taken j c k l m);
       }
     where
       pick : (s c : ℕ) → s < z .signals → c < z .channels → 1 ≤ rank s c → rank s c ≤ suc i → Stands (tableWith z rank) K i s c

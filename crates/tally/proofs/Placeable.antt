@@ -1,18 +1,13 @@
--- Which plans can be tallied: one that lies along the lists (placeable-along), and a plan of the table whose ranks the area lists
--- (placeable-plan).
+-- Which plans can be tallied: those of the table whose ranks the area lists (placeable-plan).
 use Prim.Native.Nat.{ℕ}
 use mathlib.Core.List.{List}
 use Rattle.plans.specs.Plan.{Plan}
 use Rattle.units.specs.declared.Size.{Size}
 use Rattle.work.specs.Work.{at, CHANNEL, MIDDLE, Unchanged}
 use Rattle.work.specs.Input.{Input}
-use Rattle.work.specs.State.{Lists, Along}
 use Rattle.work.specs.Ranks.{tableWith, places, Ranks}
 use Rattle.work.proofs.Input.{same-listed}
 use Rattle.tally.specs.Tallying.{Placeable}
-
-pub placeable-along : {z : Size} {w : List ℕ} → Lists z w → Along z w → Placeable z w
-placeable-along l a = record { listed = λ s k h. l .backed s _ k (a .live s k h) }
 
 -- The area listed the ranks before the plan was laid into it.
 pub placeable-plan : {z : Size} {rank : ℕ → ℕ → ℕ} {v w : List ℕ} → Input z v → Unchanged 0 MIDDLE w v → Ranks z rank v

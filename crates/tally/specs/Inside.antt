@@ -5,6 +5,7 @@ use mathlib.Core.Path.{_≡_}
 use mathlib.Core.List.{List}
 use Rattle.plans.specs.Numbers.{same}
 use Rattle.units.specs.declared.Size.{Size}
+use Rattle.units.specs.Limits.{mostSignals}
 use Rattle.work.specs.Work.{at, none, CHANNEL, WHOLE, PLACE, COUNT, rankAt, Unchanged}
 use Rattle.work.specs.Input.{Input, Listed}
 use Rattle.work.specs.State.{Mates}
@@ -47,7 +48,7 @@ pub record SignalOf (z : Size) (s : ℕ) (w : List ℕ) : Type 0 where
 pub record Tallyable (s : ℕ) (w : List ℕ) : Type 0 where
   pub size : Size
   pub is : SignalOf size s w
-  pub few : (i : ℕ) → i < size .ranks → at w COUNT i ≤ 200
+  pub few : (i : ℕ) → i < size .ranks → at w COUNT i ≤ mostSignals
 
 -- x is the place of signal s on channel c: 16 times the channel plus the rank of their pair.
 pub record PlaceOf (z : Size) (w : List ℕ) (s c x : ℕ) : Type 0 where
@@ -60,7 +61,7 @@ pub record TalliedOne (z : Size) (s : ℕ) (v w : List ℕ) : Type 0 where
   pub below : Unchanged 0 WHOLE w v
   pub placed : at v CHANNEL s < z .channels → PlaceOf z v s (at v CHANNEL s) (at w PLACE s)
   pub unplaced : at v CHANNEL s ≡ none → at w PLACE s ≡ 16 * none
-  pub others : (t : ℕ) → t < 200 → (t ≡ s → ⊥) → at w PLACE t ≡ at v PLACE t
+  pub others : (t : ℕ) → t < mostSignals → (t ≡ s → ⊥) → at w PLACE t ≡ at v PLACE t
   pub counts : (i : ℕ) → i < z .ranks → at w COUNT i ≡ at v COUNT i + same (at w PLACE s % 16) (suc i)
 
 -- It is so for every table and plan that the area holds.

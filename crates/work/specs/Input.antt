@@ -5,12 +5,12 @@ use mathlib.Core.List.{List}
 use lib.ListN.{length}
 use Rattle.units.specs.declared.Size.{Size}
 use Rattle.units.specs.Limits.{Limits}
-use Rattle.work.specs.Work.{at, FIRST, START, signalAt, channelAt, nextAt, rankAt}
+use Rattle.work.specs.Work.{at, FIRST, START, signalAt, channelAt, nextAt, rankAt, NUMBERS}
 
 -- The entries of a table in the area: they are in range, those of a signal lie together, and those of a rank form a chain
 -- from the first one on.
 pub record Input (z : Size) (w : List ℕ) : Type 0 where
-  pub room : 16384 ≤ length w
+  pub room : NUMBERS ≤ length w
   pub limits : Limits z
   pub signal : (e : ℕ) → e < z .pairs .0 → signalAt w e < z .signals
   pub channel : (e : ℕ) → e < z .pairs .0 → channelAt w e < z .channels
