@@ -4,53 +4,39 @@ use denote.Ref.{now}
 use Rattle.command.proofs.Held.{held-answerable, held-answer}
 use Rattle.command.proofs.answering.write_payload.Statement.{statement}
 use Rattle.command.proofs.answering.write_payload.Tie as tie
-use Rattle.command.proofs.answering.write_payload.Reads as reads
-use Rattle.command.proofs.answering.write_payload.Lts as lts
-use Rattle.answer.proofs.write.Reads as write-reads
 
--- src/answering.rt:20:22
 add-counts-end : tie.Need-add-counts-end
 add-counts-end c = search needs
 
--- src/answering.rt:21:22
 add-places-end : tie.Need-add-places-end
 add-places-end c = search needs
 
--- src/answering.rt:22:24
 sub-write : tie.Need-sub-write
 sub-write c = search needs
 
--- src/answering.rt:22:24
 part-write-start : tie.Need-part-write-start
 part-write-start c = search needs
 
--- src/answering.rt:22:24
 part-write-end : tie.Need-part-write-end
 part-write-end c = search needs
 
--- src/answering.rt:22:47
 sub-write-2 : tie.Need-sub-write-2
 sub-write-2 c = search needs
 
--- src/answering.rt:22:47
 part-write-start-2 : tie.Need-part-write-start-2
 part-write-start-2 c = search needs
 
--- src/answering.rt:22:47
 part-write-end-2 : tie.Need-part-write-end-2
 part-write-end-2 c = search needs
 
--- src/answering.rt:22:5
 write-requires : tie.Need-write-requires
 write-requires c κs =
     let start = c .before .before .before .before .before in
     held-answerable (start .args .signals) (start .args .ranks) (now (start .args .w)) (start .pre .0) (start .pre .1)
 
--- src/answering.rt:16:1
 same-length : tie.Need-same-length
 same-length c = search needs
 
--- src/answering.rt:16:1
 returns : tie.Need-returns
 returns c =
     let written = c .before .before in
