@@ -1,7 +1,7 @@
 /* The box as a C library. docs/PROTOCOL.md says what blocks, tables and answers look like; docs/PROVED.md what is proved of these
    functions. Every function takes any bytes and any lengths and always returns; none keeps a pointer, and none allocates. A pointer
    must be valid for the length that goes with it; where that is 0 nothing is read or written through it, and it may be NULL. A command
-   takes up to 13 KiB of stack.
+   takes up to 6,624 bytes of stack.
 
    Numbers: 0 success. Refusals, each given exactly when no earlier one applies:
      1  the input is empty or its first byte is not '#'
