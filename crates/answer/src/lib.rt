@@ -1,5 +1,7 @@
 // The answer's payload, written from counts and places. specs/Answer says which bytes a table and its plan make, specs/Writing
 // which these lists make. A place has 12 bits, so two places are three whole bytes, and every byte is written once.
+#![tactic(auto)]
+
 ghost use Rattle.std.specs.Prelude.{◌≡◌, [], ◌∷◌, ◌++◌, ◌+◌, ◌*◌, ◌/◌, ◌≤◌, ◌<◌, length, drop, set, get_or};
 ghost use Rattle.fields.specs.Fields.{packed};
 ghost use Rattle.plans.specs.Order.{filled};

@@ -1,5 +1,7 @@
 // The bench program: reads one block from standard input and lists the plan that the box answers with, or its refusal.
 // No command that the box accepts has more than 7,515 bytes, so an input that is cut at 8,192 is never placed.
+#![tactic(auto)]
+
 ghost use Rattle.std.specs.Prelude.{◌≤◌};
 
 use units::Refusal;

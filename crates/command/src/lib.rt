@@ -1,4 +1,6 @@
 // A whole command, from the client's block to the answer's block. specs/Handling says what it comes to for every input.
+#![tactic(auto)]
+
 mod answering;
 
 ghost use Rattle.std.specs.Prelude.{◌≡◌, ℕ, length};

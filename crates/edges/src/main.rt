@@ -1,5 +1,7 @@
 // Runs document 01's edge cases and prints what was seen, a line for each. The cases are the lines of the file stdin beside
 // src/, whose head says how they are written; the file stdout has what the document says must be seen.
+#![tactic(auto)]
+
 mod filling;
 mod reading;
 mod say;

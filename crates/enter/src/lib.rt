@@ -1,5 +1,7 @@
 // A rank's pairs become live: they enter the lists of live channels. Before the first rank the area is made ready (preparing).
 // specs/Entering says what both promise.
+#![tactic(auto)]
+
 mod preparing;
 
 ghost use Rattle.std.specs.Prelude.{◌≡◌, false, ◌≤◌, ◌<◌, length};

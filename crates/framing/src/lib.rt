@@ -1,5 +1,7 @@
 // Framing a payload as a block: the shortest header that counts its bytes, and the payload behind it in the lent area.
 // specs/Framing says what is answered and written for every payload and every area.
+#![tactic(auto)]
+
 ghost use Rattle.std.specs.Prelude.{◌≡◌, ◌≤◌, ◌++◌, length, drop};
 ghost use Rattle.framing.specs.Framing.{longest, width_of, digits_of, block_length, Headable, Heads, Frames};
 

@@ -1,4 +1,6 @@
 // The public steps under their C names. Each hands on to the step itself; specs/Exports says what the fields are.
+#![tactic(auto)]
+
 ghost use Rattle.std.specs.Prelude.{◌≡◌};
 ghost use Rattle.opening.specs.Opening.{opening_of};
 ghost use Rattle.table.specs.Checking.{checked_of};

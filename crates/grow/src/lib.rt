@@ -1,5 +1,7 @@
 // The plan grows: every free signal in turn is the root of a search (searching), and a path that is found is flipped (flipping).
 // specs/Growing says what comes of it.
+#![tactic(auto)]
+
 mod flipping;
 mod searching;
 

@@ -1,4 +1,6 @@
 // Comparing two lines of counts, rank 1 first, a byte each, by the order that best plans are defined by.
+#![tactic(auto)]
+
 ghost use Rattle.std.specs.Prelude.{◌≡◌};
 ghost use Rattle.plans.specs.Order.{filled};
 ghost use Rattle.lines.specs.Comparing.{Judged, Ordered, Compares, comparison_refusal, comparison_order};

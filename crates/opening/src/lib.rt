@@ -1,5 +1,7 @@
 // Opening a block: the header is read first, and then judged by how a block of its form must end. The payload is handed back as a
 // part of the caller's bytes. specs/Opening says what is found in every input.
+#![tactic(auto)]
+
 ghost use Rattle.std.specs.Prelude.{◌≡◌, ◌≤◌, length};
 ghost use Rattle.opening.specs.Opening.{ended_of, counted_of, opening_of, payload_of};
 

@@ -1,5 +1,7 @@
 // The placer: it finds a best plan of a table that lies unpacked in the work area, rank by rank, and keeps what shows it to be
 // best. specs/Placing says what it promises; the steps have crates of their own.
+#![tactic(auto)]
+
 ghost use Rattle.work.specs.Input.{Input};
 ghost use Rattle.placer.specs.Placing.{PlacedFrom};
 

@@ -1,4 +1,6 @@
 // Striking: the cover that the failed searches of a rank leave is read off the marks. specs/Striking says what it promises.
+#![tactic(auto)]
+
 ghost use Rattle.std.specs.Prelude.{◌≤◌, ◌<◌, length};
 ghost use Rattle.units.specs.Limits.{most_channels};
 ghost use Rattle.work.specs.Input.{Input};

@@ -1,5 +1,7 @@
 // Checking a bare payload: whether it is a table's, and which refusal it gets if not (rows 4 to 9). specs/Checking says what checking
 // answers for every byte string.
+#![tactic(auto)]
+
 ghost use Rattle.std.specs.Prelude.{◌≡◌, ◌≤◌};
 ghost use Rattle.units.specs.Limits.{most_ranks};
 ghost use Rattle.tables.specs.Payload.{pairs_in, size_in};

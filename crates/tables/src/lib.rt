@@ -1,6 +1,8 @@
 // Which table a payload holds, and readers of its size and of its entries. specs/Payload says where each number stands; specs/Sound
 // which payloads are a table's. The proofs say that every table within the limits has exactly one payload, and how tables are made
 // from others.
+#![tactic(auto)]
+
 ghost use Rattle.std.specs.Prelude.{◌≡◌, ◌+◌, ◌*◌, ◌/◌, ◌%◌, ◌≤◌};
 ghost use Rattle.tables.specs.Payload.{size_in, entry_bits};
 

@@ -1,5 +1,7 @@
 // The tally of a finished plan: the place of each signal, and how many are placed at each rank. specs/Tallying says what it
 // promises.
+#![tactic(auto)]
+
 ghost use Rattle.std.specs.Prelude.{◌+◌, ◌≤◌, length};
 ghost use Rattle.work.specs.Work.{COUNT};
 ghost use Rattle.work.specs.Input.{Input};

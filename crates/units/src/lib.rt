@@ -1,5 +1,7 @@
 // What every room of the box speaks of: counts of bytes and counts of entries, as two types, so that neither can stand in for
 // the other; how large a table is, with document 01's limits; and a refusal. specs/Refusals gives every number and every place.
+#![tactic(auto)]
+
 ghost use Rattle.std.specs.Prelude.{◌≡◌};
 ghost use Rattle.units.specs.Units.{bytes_of};
 

@@ -1,5 +1,7 @@
 // A payload's table is unpacked into the work area: its entries, chained by rank, and where each signal's entries start.
 // specs/Unpacking says what it promises.
+#![tactic(auto)]
+
 ghost use Rattle.std.specs.Prelude.{◌≡◌, ◌*◌, ◌/◌, ◌≤◌, length};
 ghost use Rattle.tables.specs.Payload.{size_in};
 ghost use Rattle.tables.specs.Sound.{Sound};

@@ -1,4 +1,6 @@
 // The work area's regions, and the two functions that all access to it goes through. specs/Work says what each region holds.
+#![tactic(auto)]
+
 ghost use Rattle.std.specs.Prelude.{◌≡◌, ◌+◌, ◌<◌, length};
 ghost use Rattle.work.specs.Work.{at, Put};
 
