@@ -1,17 +1,17 @@
 -- Plans that look good and are not: the four choices of document 01, each on its table. What is said of every plan goes
 -- through Ways; the best counts are those of starred_rows.
 -- Main results, at the end: first_come_falls_short, largest-total-falls-short, weights-mislead, found-afresh-falls-short.
-use Prim.Native.Nat.{ℕ, zero, suc, ◌-◌, ◌*◌, ◌≤◌, ◌<◌}
+use Prim.Native.Nat.{ℕ, ◌-◌, ◌*◌, ◌≤◌, ◌<◌}
 use mathlib.Core.Path.{◌≡◌, refl, ap, sym, ◌∙◌}
 use mathlib.Core.List.{List, [], ◌∷◌}
 use native.Mathlib.Omega.{arith}
 use lib.ListN.{length}
-use Rattle.plans.specs.Numbers.{same, under, sum}
+use Rattle.plans.specs.Numbers.{sum}
 use Rattle.plans.specs.Order.{Less, Same, filled, Compared}
 use Rattle.plans.specs.Order.Compared.{lesser, equal, greater}
-use Rattle.plans.specs.Plan.{Table, Places, Plan, BestPlan, Best, placed, line, total}
+use Rattle.plans.specs.Plan.{Table, Places, Plan, BestPlan, Best, line, total}
 use Rattle.plans.specs.Tables.{table_of}
-use Rattle.plans.specs.Rows.{Small, Agree, option, row_a, row_b, row_d, rows, table, placed_by, All}
+use Rattle.plans.specs.Rows.{Small, Agree, row_a, row_b, row_d, rows, table, placed_by, All}
 use Rattle.plans.specs.LooksGood.{lowest, serve, served, after_rank, first_come, Largest, LargestFirst, score, chosen_b, chosen_d, FallsShort}
 use Rattle.plans.proofs.Sums.{sum_ext}
 use Rattle.plans.proofs.Order.{compare_lines, not_less_of_not_more}

@@ -1,5 +1,5 @@
 -- What a table, a plan, its counts and a best plan are (document 01, "What a best plan is").
-use Rattle.std.specs.Prelude.{ℕ, suc, ◌+◌, ◌*◌, ◌≤◌, ◌<◌, ◌≡◌}
+use Rattle.std.specs.Prelude.{ℕ, suc, ◌*◌, ◌≤◌, ◌<◌}
 use Rattle.plans.specs.Numbers.{same, under, sum}
 use Rattle.plans.specs.Order.{Less, Same}
 

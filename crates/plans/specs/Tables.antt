@@ -1,5 +1,5 @@
 -- Tables written out as entries, and the three ways to make one table from others (document 01, "What a best plan is").
-use Rattle.std.specs.Prelude.{ℕ, suc, ◌+◌, ◌-◌, ◌*◌, Bool, true, false, List, [], ◌∷◌, eqb, ltb, leb}
+use Rattle.std.specs.Prelude.{ℕ, suc, ◌+◌, ◌-◌, Bool, true, false, List, [], ◌∷◌, eqb, ltb, leb}
 use Rattle.plans.specs.Plan.{Table}
 
 -- the first value where the test passed, the second where it failed; kept shut, so that a goal shows the test

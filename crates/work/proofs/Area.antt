@@ -1,6 +1,6 @@
 -- Laws of the work area: what a store does to its own index and to any other (Put, put_other), what agrees where two areas are
 -- Unchanged in a range, or are so but at some indices (UnchangedBut), and what a region holds that is cut out (region_at).
-use Prim.Native.Nat.{ℕ, ◌+◌, ◌-◌, ◌≤◌, ◌<◌}
+use Prim.Native.Nat.{ℕ, ◌+◌, ◌≤◌, ◌<◌}
 use mathlib.Core.Path.{◌≡◌, refl, sym, ◌∙◌}
 use mathlib.Core.List.{List}
 use native.Mathlib.Omega.{arith}

@@ -1,6 +1,6 @@
 -- Lists and mates are carried over where their regions stay (same_in_list, same_lists, same_mates, same_along), and a list holds
 -- channels of the table (list_channel). Leans on proofs/Area and proofs/Input.
-use Prim.Native.Nat.{ℕ, suc, ◌-◌, ◌≤◌, ◌<◌}
+use Prim.Native.Nat.{ℕ, suc, ◌≤◌, ◌<◌}
 use mathlib.Core.Path.{◌≡◌, ◌∙◌}
 use mathlib.Core.List.{List}
 use native.Mathlib.Omega.{arith}
