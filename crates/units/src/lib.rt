@@ -10,11 +10,11 @@ mod refusals;
 pub use refusals::Refusal;
 
 // So many bytes. A header counts bytes and takes nothing else.
-#[derive(Drop)]
+#[derive(Clone, Copy)]
 pub struct Bytes(pub usize);
 
 // So many entries of a table. A table's head counts them in 12 bits.
-#[derive(Drop)]
+#[derive(Clone, Copy)]
 pub struct Entries(pub u16);
 
 // The one way from entries to bytes: how many bytes so many entries take.
@@ -35,7 +35,7 @@ pub const MOST_RANKS: usize = 15;
 pub const MOST_PAIRS: usize = 3000;
 
 // How many signals, channels, ranks and pairs a table has.
-#[derive(Drop)]
+#[derive(Clone, Copy)]
 pub struct Size {
     pub signals: usize,
     pub channels: usize,

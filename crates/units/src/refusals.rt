@@ -4,7 +4,7 @@ ghost use Rattle.units.specs.Refusals.{refuse, success, no_mark, no_digit, wrong
 
 // A refusal's number in document 01's table, and its place; 0 and 0 is success.
 #[repr(C)]
-#[derive(Drop)]
+#[derive(Clone, Copy)]
 pub struct Refusal {
     pub number: u32,
     pub place: usize,
