@@ -1,6 +1,8 @@
 // Fields of up to 32 bits at any bit offset of a byte string, the most significant bit first: `read` gives one and `write`
 // puts one. Both go by whole bytes and never by single bits. They are internal to the box and no public steps, so where a
 // public step would refuse they have a `requires`. specs/Fields says what each gives.
+#![tactic(auto)]
+
 ghost use Rattle.std.specs.Prelude.{◌≡◌, ◌+◌, ◌*◌, ◌%◌, ◌^◌, ◌≤◌, ◌<◌, min, length, get_or};
 ghost use Rattle.fields.specs.Fields.{field_at, Puts, byte_with};
 

@@ -11,7 +11,7 @@ use lib.ListN.{length, get_or}
 use lib.Seq.{append_snoc, ext_get_or}
 use Rattle.fields.specs.Fields.{Field, bit_at, number, field_at, bits_in, packed, Holds}
 use Rattle.fields.specs.Fields.Holds.{holds_none, holds_next}
-use Rattle.fields.proofs.Bits.{bit_past_end, field_bound, fields_determine}
+use Rattle.fields.proofs.Bits.{bit_past_end, fields_determine}
 use Rattle.fields.proofs.Packing.{length-packed, packed_bytes, packed_fill, packed_reads_back, packed_unique}
 use Rattle.plans.specs.Tables.{Entry, table_of}
 use Rattle.tables.specs.Payload.{signals_in, channels_in, ranks_in, pairs_in, size_in, entry_bit, entry_in, entries_in, table_in, table_fields}
