@@ -1,6 +1,5 @@
 -- Preparing and entering, part by part.
 use Rattle.std.specs.Prelude.{ℕ, suc, ◌<◌, ◌≡◌, Bool, true, List}
-use Rattle.plans.specs.Numbers.{same}
 use Rattle.units.specs.Limits.{most_signals, most_pairs}
 use Rattle.work.specs.Work.{at, none, START, MIDDLE, LIVE, END, CHANNEL, SIGNAL, SHUT_SIGNAL, SHUT_CHANNEL, FROM, WHOLE, Unchanged}
 

@@ -17,7 +17,7 @@ use units::Size;
 use work::{CHANNEL, NONE, QUEUE, get};
 
 // What a search finds: a free channel, the last of so many reached, or nothing.
-#[derive(Drop)]
+#[derive(Clone, Copy)]
 pub enum Found {
     Free(usize),
     Nothing,

@@ -1,19 +1,18 @@
 -- One turn of the rank loop: what the area is between two ranks (After), and that entering, growing and striking carry it on.
 -- The promises about the table are kept for every rank function that the area lists where the loop begins.
 -- Leans on Standing and the files that carry it on.
-use Prim.Native.Nat.{ℕ, zero, suc, ◌+◌, ◌≤◌, ◌<◌}
-use mathlib.Core.Path.{◌≡◌, refl, sym, ◌∙◌}
+use Prim.Native.Nat.{ℕ, suc, ◌+◌, ◌≤◌, ◌<◌}
+use mathlib.Core.Path.{◌≡◌, ◌∙◌}
 use mathlib.Core.List.{List}
 use native.Mathlib.Nat.{not-suc-le-zero, le_antisymm}
 use native.Mathlib.Numerals.{add-one}
 use native.Mathlib.Omega.{arith}
-use Rattle.plans.specs.Covers.{Covers}
 use Rattle.units.specs.declared.Size.{Size}
-use Rattle.work.specs.Work.{at, none, END, CHANNEL, SHUT_SIGNAL, FROM, MIDDLE, WHOLE, Unchanged}
+use Rattle.work.specs.Work.{at, END, CHANNEL, FROM, MIDDLE, Unchanged}
 use Rattle.work.specs.Input.{Input}
 use Rattle.work.specs.State.{InList, Lists, Mates, Along, Sealed, Unmarked}
 use Rattle.work.specs.Ranks.{Ranks}
-use Rattle.work.proofs.Area.{unchanged_at, unchanged_refl, unchanged_trans, unchanged_part, unchanged_sym}
+use Rattle.work.proofs.Area.{unchanged_at, unchanged_refl, unchanged_trans, unchanged_part}
 use Rattle.work.proofs.Input.{same_input, same_start}
 use Rattle.work.proofs.State.{same_lists, same_mates}
 use Rattle.work.proofs.Ranks.{same_ranks}

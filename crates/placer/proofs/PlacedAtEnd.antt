@@ -7,7 +7,7 @@ use native.Mathlib.Nat.{lt_of_not-le}
 use native.Mathlib.Decide.{dec_lt}
 use native.Mathlib.Omega.{arith}
 use Rattle.plans.specs.Numbers.{under}
-use Rattle.plans.specs.Plan.{Table, placed, load}
+use Rattle.plans.specs.Plan.{Table, load}
 use Rattle.plans.specs.Covers.{Covers, Live}
 use Rattle.plans.proofs.Sums.{under_yes}
 use Rattle.plans.proofs.Pick.{pick_yes, pick_no}

@@ -6,7 +6,6 @@ use mathlib.Core.Path.{◌≡◌, ap, sym, ◌∙◌}
 use mathlib.Core.List.{List}
 use native.Mathlib.Nat.{not-suc-le-zero}
 use native.Mathlib.Omega.{arith}
-use Rattle.plans.specs.Plan.{placed}
 use Rattle.plans.specs.Covers.{Covers, Stands, Certificate}
 use Rattle.units.specs.declared.Size.{Size}
 use Rattle.work.specs.Work.{at, none, CHANNEL, SIGNAL, SHUT_SIGNAL, SHUT_CHANNEL, SCRATCH, signal_at, rank_at, Unchanged}

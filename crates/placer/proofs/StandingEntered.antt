@@ -2,16 +2,14 @@
 -- Leans on Standing.
 use Prim.Native.Nat.{ℕ, suc, ◌≤◌, ◌<◌}
 use mathlib.Core.Path.{◌≡◌, ap, sym, ◌∙◌}
-use mathlib.Core.Logic.{◌⊎◌, ⊎_elim}
+use mathlib.Core.Logic.{⊎_elim}
 use mathlib.Core.List.{List}
 use native.Mathlib.Nat.{lt_of_not-le}
 use native.Mathlib.Decide.{dec_le}
 use native.Mathlib.Omega.{arith}
 use Rattle.plans.specs.Numbers.{under}
-use Rattle.plans.specs.Plan.{placed}
 use Rattle.plans.specs.Covers.{Covers, Stands}
 use Rattle.plans.proofs.Sums.{under_no}
-use Rattle.plans.specs.Tables.{pick}
 use Rattle.units.specs.declared.Size.{Size}
 use Rattle.work.specs.Work.{at, CHANNEL, SHUT_SIGNAL, SCRATCH, signal_at, channel_at, rank_at, Unchanged}
 use Rattle.work.specs.Input.{Input, Listed}
@@ -21,7 +19,6 @@ use Rattle.work.proofs.Area.{unchanged_part}
 use Rattle.work.proofs.State.{same_sits, same_holds, same_mates}
 use Rattle.enter.specs.Entering.{Entered}
 use Rattle.placer.proofs.Standing.{Standing, same_shut_signal, same_shut_channel}
-use Rattle.placer.proofs.StandingStruck.{next}
 
 -- Entering changes no mates.
 pub entered_mates_region : {z : Size} {r : ℕ} {v w : List ℕ} → Entered z r v w → Unchanged CHANNEL SHUT_SIGNAL w v

@@ -3,7 +3,6 @@ use Prim.Native.Nat.{ℕ, ◌<◌}
 use mathlib.Core.Path.{sym, ◌∙◌}
 use mathlib.Core.List.{List}
 use native.Mathlib.Omega.{arith}
-use Rattle.plans.specs.Plan.{placed}
 use Rattle.plans.specs.Covers.{Covers}
 use Rattle.units.specs.declared.Size.{Size}
 use Rattle.work.specs.Work.{END}

@@ -6,7 +6,6 @@ use mathlib.Core.List.{List}
 use native.Mathlib.Nat.{not-suc-le-zero}
 use native.Mathlib.Omega.{arith}
 use Rattle.plans.specs.Numbers.{under}
-use Rattle.plans.specs.Plan.{placed}
 use Rattle.plans.specs.Covers.{Covers, Live, extend}
 use Rattle.plans.proofs.Sums.{under_yes, under-bit}
 use Rattle.plans.proofs.FailedSearch.{stands_after, certificate_covers, replaced_here, replaced_below, by_replaced}

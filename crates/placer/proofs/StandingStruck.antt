@@ -7,7 +7,6 @@ use native.Mathlib.Nat.{lt_of_not-le}
 use native.Mathlib.Decide.{dec_lt, ℕ_discrete}
 use native.Mathlib.Omega.{arith}
 use Rattle.plans.specs.Numbers.{under}
-use Rattle.plans.specs.Plan.{placed}
 use Rattle.plans.specs.Covers.{Covers, Live, Closed, cover_on, extend, after_search}
 use Rattle.plans.proofs.Sums.{under_yes, under_no, under_true, under-bit}
 use Rattle.plans.proofs.Counting.{placed_yes, placed_no}
