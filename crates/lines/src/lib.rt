@@ -11,7 +11,7 @@ use units::{MOST_RANKS, Refusal};
 const LARGEST: u8 = 200;
 
 // What comparing two lines comes to.
-#[derive(Drop)]
+#[derive(Clone, Copy)]
 pub enum Comparison {
     // One of them has more than 15 counts or a count above 200.
     Refused(Refusal),

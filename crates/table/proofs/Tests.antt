@@ -1,6 +1,6 @@
 -- What the tests of one entry mean. Row 8: an entry is in the table or strays (in_table_passes, passed_in_table). Row 9: entries
 -- stand above one another where their keys ascend (above_passes, passed_above, keys_ascend, keys_sink).
-use Prim.Native.Nat.{ℕ, ◌≤◌, ◌<◌}
+use Prim.Native.Nat.{◌≤◌, ◌<◌}
 use mathlib.Core.Path.{◌≡◌, refl}
 use mathlib.Core.Bool.{Bool, true, false, ◌&&◌, and-false, false≢true}
 use native.Mathlib.Nat.{lt_of_not-le}

@@ -12,7 +12,7 @@ use tables::{entry_at, size_of, two_entries};
 use units::{MOST_CHANNELS, MOST_PAIRS, MOST_SIGNALS, Refusal, Size};
 
 // What checking a payload comes to: a refusal, or how large the table is.
-#[derive(Drop)]
+#[derive(Clone, Copy)]
 pub enum Checked {
     Refused(Refusal),
     Accepted(Size),
