@@ -1,24 +1,23 @@
 -- Opening a block yields exactly the bytes that its form marks: what opens is a block of one of the two forms and its payload
 -- is what is handed back (opened_form), and every block of either form opens (form_opened).
 -- Leans on opening's laws of the header and of how a block must end.
-use Prim.Native.Nat.{ℕ, zero, suc, ◌+◌, ◌-◌, ◌<◌}
+use Prim.Native.Nat.{ℕ, suc, ◌+◌, ◌-◌, ◌<◌}
 use mathlib.Core.Path.{◌≡◌, refl, ap, sym, ◌∙◌}
 use mathlib.Core.Bool.{Bool, true, false, cond}
 use mathlib.Core.List.{List, [], ◌∷◌, ◌++◌}
-use native.Mathlib.Nat.{not-suc-le-zero, le_of_suc-le-suc}
 use native.Mathlib.Omega.{arith}
-use lib.ListN.{length, get_or, take, drop, length-append, length-drop, length-take, take-append-drop, drop_of_length-le}
-use lib.Seq.{take_all, take_at, get_or-take, drop-cons}
+use lib.ListN.{length, get_or, take, drop, length-append, get_or-append, length-drop, length-take, take-append-drop, drop_of_length-le}
+use lib.Seq.{take_all, take_at, get_or-take, get_or_at, drop-cons}
 use lib.Dec.{eqb}
 use borrow.Author.Tests.{eq-eqb, ne_eqb, eqb-true, eqb-false}
-use Rattle.bytes.specs.Bytes.{index_of, index_after}
+use Rattle.std.proofs.lemmas.List.Sums.{position_or_len_is, passes_at_first, fails_before_first}
 use Rattle.units.specs.Refusals.{wrong_end}
 use Rattle.opening.specs.declared.headers.Header.{Header}
 use Rattle.opening.specs.declared.headers.Header.TheVariants.{NoMark, NoDigit, OpenEnded, Counted}
 use Rattle.opening.specs.declared.Opening.{Opening}
 use Rattle.opening.specs.declared.Opening.TheVariants.{Refused}
 use Rattle.opening.specs.Header.{OpenHeader, header_in, counting, Counts, HeaderSays}
-use Rattle.opening.specs.Opening.{ended_of, counted_of, opening_by, opening_of, opening_refusal, opening_start, opening_length, payload_of, from}
+use Rattle.opening.specs.Opening.{index_of, ended_of, counted_of, opening_by, opening_of, opening_refusal, opening_start, opening_length, payload_of, from}
 use Rattle.opening.proofs.Digits.{header_inside}
 use Rattle.opening.proofs.Reading.{header_says, header_ended, counts_header}
 use Rattle.opening.proofs.Ending.{opening_from, counted_ends}
@@ -28,31 +27,19 @@ use Rattle.block.specs.Forms.Block.{definite, open_ended}
 -- The first b of a list
 
 index_at : (b : ℕ) (t : List ℕ) → index_of b t < length t → get_or t (index_of b t) 0 ≡ b
-unfolding index_of index_after
-index_at b [] l = absurd (not-suc-le-zero l)
-index_at b (x ∷ t) l = go (eqb x b) refl l (index_at b t)
-  where
-    go : (f : Bool) → eqb x b ≡ f → index_after f (index_of b t) < suc (length t) → (index_of b t < length t → get_or t (index_of b t) 0 ≡ b)
-        → get_or (x ∷ t) (index_after f (index_of b t)) 0 ≡ b
-    go true e h ih = eqb-true x b e
-    go false e h ih = ih (le_of_suc-le-suc h)
+unfolding index_of
+index_at b t l = eqb-true (get_or t (index_of b t) 0) b (passes_at_first (λ x. eqb x b) t 0 l)
 
 index_before : (b : ℕ) (t : List ℕ) (i : ℕ) → i < index_of b t → get_or t i 0 ≡ b → ⊥
-unfolding index_of index_after
-index_before b [] i l e = not-suc-le-zero l
-index_before b (x ∷ t) i l e = go (eqb x b) refl i l e (index_before b t)
-  where
-    go : (f : Bool) → eqb x b ≡ f → (i : ℕ) → i < index_after f (index_of b t) → get_or (x ∷ t) i 0 ≡ b
-        → ((j : ℕ) → j < index_of b t → get_or t j 0 ≡ b → ⊥) → ⊥
-    go true h i l e ih = not-suc-le-zero l
-    go false h zero l e ih = eqb-false x b h e
-    go false h (suc i) l e ih = ih i (le_of_suc-le-suc l) e
+unfolding index_of
+index_before b t i l e = eqb-false (get_or t i 0) b (fails_before_first (λ x. eqb x b) t i 0 l) e
 
 index_append : (b : ℕ) (p rest : List ℕ) → ((i : ℕ) → i < length p → get_or p i 0 ≡ b → ⊥) → index_of b (p ++ (b ∷ rest)) ≡ length p
-unfolding index_of index_after
-index_append b [] rest h = rw (eq-eqb b b refl)
-index_append b (x ∷ p) rest h =
-    rw (ne_eqb x b (h 0 (omega arith))) (ap suc (index_append b p rest (λ i l. h (suc i) (omega arith))))
+unfolding index_of
+index_append b p rest h =
+    position_or_len_is (λ x. eqb x b) (p ++ (b ∷ rest)) (length p) 0 (omega (arith, length-append p (b ∷ rest)))
+    (λ k l. ne_eqb (get_or (p ++ (b ∷ rest)) k 0) b (λ e. h k l (sym (get_or-append p (b ∷ rest) 0 k l) ∙ e)))
+    (λ l. eq-eqb (get_or (p ++ (b ∷ rest)) (length p) 0) b (get_or_at p b rest 0 (length p) refl))
 
 -- What an answer of opening s hands back is a payload that a form marks, if the answer is no refusal.
 Marks : (List ℕ → List ℕ → Type 0) → List ℕ → Opening → Type 0

@@ -2,7 +2,7 @@
 -- counting bytes (framed_definite, header_counts_bytes), so opening it hands the payload back (framed_opens); and no definite
 -- block of the payload is shorter (framed_shortest).
 -- Leans on Forms, and on the laws of opening and framing.
-use Prim.Native.Nat.{ℕ, zero, suc, ◌+◌, ◌-◌, ◌/◌, ◌%◌, ◌^◌, ◌≤◌, ◌<◌}
+use Prim.Native.Nat.{ℕ, zero, suc, ◌+◌, ◌/◌, ◌%◌, ◌^◌, ◌≤◌, ◌<◌}
 use mathlib.Core.Path.{◌≡◌, refl, ap, sym, ◌∙◌}
 use mathlib.Core.Bool.{true}
 use mathlib.Core.List.{List, [], ◌∷◌}

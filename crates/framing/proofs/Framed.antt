@@ -4,7 +4,7 @@ use mathlib.Core.Path.{◌≡◌, refl, ap, sym, ◌∙◌}
 use mathlib.Core.List.{List, ◌++◌, append_assoc}
 use native.Mathlib.Omega.{arith}
 use lib.ListN.{length, take, drop, length-append}
-use lib.Seq.{take-length, take_at, drop_at, drop-drop}
+use lib.Seq.{take_at, drop_at, drop-drop}
 use borrow.Author.Tests.{lt-ltb, le-ltb}
 use borrow.Rule.Slice.PartMut.{mid_of, put_mid}
 use Rattle.units.specs.declared.refusals.Refusal.{Refusal}
@@ -69,12 +69,12 @@ module _ (p area : List ℕ) where
     frame_headable fits = record { short = short; room = omega (arith, long) }
 
     pub frame_written : whole ≤ length area → {m r : ℕ} {after : List ℕ} → Heads m area r after → m ≡ length p
-        → (last : List ℕ) → last ≡ take (length p) p ++ drop (length p) (mid_of r (length after - r) after)
+        → (last : List ℕ) → last ≡ p ++ drop (length p) (mid_of r (length after - r) after)
         → Frames p area (Framed (record { 0 = whole })) (put_mid r (length after - r) after last)
     unfolding framing_of area_after
     frame_written fits w counts last e =
         let room : block_length (length p) ≤ length area = omega (arith, long) in
         record {
           answer = rw (le-ltb longest (length p) short, le-ltb (length area) (block_length (length p)) room, long) refl;
-          bytes = block_behind p area w counts room last (rw (take-length p) at e) ∙ rw long refl;
+          bytes = block_behind p area w counts room last e ∙ rw long refl;
         }

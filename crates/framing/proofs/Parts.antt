@@ -1,5 +1,5 @@
 -- A slice's part from an index to its end, `&mut xs[a..]`: what is lent, and what the whole holds when it is back as ys.
-use Prim.Native.Nat.{ℕ, ◌+◌, ◌-◌}
+use Prim.Native.Nat.{ℕ, ◌-◌}
 use mathlib.Core.Path.{◌≡◌, ap, ◌∙◌}
 use mathlib.Core.List.{List, ◌++◌, append-nil}
 use native.Mathlib.Nat.{le_of_eq}

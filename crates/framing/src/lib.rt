@@ -11,7 +11,7 @@ use units::{Bytes, Refusal};
 pub const LONGEST: usize = 7504;
 
 // What framing a payload comes to: a refusal, or how many bytes the block has.
-#[derive(Drop)]
+#[derive(Clone, Copy)]
 pub enum Framing {
     Refused(Refusal),
     Framed(Bytes),
@@ -66,6 +66,14 @@ pub fn framed_length(length: Bytes) -> Bytes
     Bytes(2 + width(n) + n)
 }
 
+// Copies `from` to the start of `to`; what stands behind it there stays.
+fn copy(from: &[u8], to: &mut [u8])
+    requires { length from.now ≤ length to.old }
+    ensures { to.new ≡ from.now ++ drop (length from.now) to.old }
+{
+    to[..from.len()].copy_from_slice(from);
+}
+
 // Frames a payload into the lent area (rows 6 and 10). The payload goes into the area's part from the header's end on.
 pub fn frame(payload: &[u8], area: &mut [u8]) -> Framing
     ensures { Frames payload.now area.old result area.new }
@@ -80,6 +88,6 @@ pub fn frame(payload: &[u8], area: &mut [u8]) -> Framing
     }
     let header = put_header(area, Bytes(n));
     let at = header.0;
-    bytes::copy(payload, &mut area[at..]);
+    copy(payload, &mut area[at..]);
     Framing::Framed(whole)
 }

@@ -1,16 +1,14 @@
 -- How a block must end: one law for each way through the rule of its form; what opening finds lies within the input, and what it
 -- refuses has a number from 1 to 3 (opening_refused). Leans on specs/Opening.
 use Prim.Native.Nat.{ℕ, ◌+◌, ◌-◌, ◌≤◌}
-use mathlib.Core.Path.{◌≡◌, refl, ap, ◌∙◌}
+use mathlib.Core.Path.{◌≡◌, refl, ap}
 use mathlib.Core.Bool.{Bool, true, false, cond}
 use mathlib.Core.List.{List, []}
 use native.Mathlib.Nat.{add-sub_cancel_left}
 use native.Mathlib.Omega.{arith}
 use lib.ListN.{length, take, drop}
-use lib.Seq.{take-length}
 use lib.Dec.{eqb}
 use borrow.Author.Tests.{eq-eqb, ne_eqb, eqb-true}
-use Rattle.bytes.specs.Bytes.{index_of, slice}
 use Rattle.units.specs.declared.refusals.Refusal.{Refusal}
 use Rattle.units.specs.Refusals.{wrong_end}
 use Rattle.opening.specs.declared.headers.Header.{Header}
@@ -18,25 +16,20 @@ use Rattle.opening.specs.declared.headers.Header.TheVariants.{NoMark, NoDigit, O
 use Rattle.opening.specs.declared.Opening.{Opening}
 use Rattle.opening.specs.declared.Opening.TheVariants.{Refused, Payload}
 use Rattle.opening.specs.Header.{header_in}
-use Rattle.opening.specs.Opening.{ended_of, counted_of, opening_by, opening_of, opening_start, opening_length, payload_of, from}
+use Rattle.opening.specs.Opening.{index_of, ended_of, counted_of, opening_by, opening_of, opening_start, opening_length, payload_of, from}
 
 -- `#0`
 
-module _ (s : List ℕ) (end : ℕ) (first : end ≡ 2 + index_of 10 (slice 2 (length s) s)) where
-  -- the newline as the search from index 2 finds it
-  newline : end ≡ 2 + index_of 10 (drop 2 s)
-  unfolding slice
-  newline = first ∙ ap (λ (l : List ℕ). 2 + index_of 10 (drop 2 l)) (take-length s)
-
+module _ (s : List ℕ) (end : ℕ) (first : end ≡ 2 + index_of 10 (drop 2 s)) where
   pub ended_last : (n : ℕ) → end + 1 ≡ length s → n + 2 ≡ end → ended_of s ≡ from 2 n
   unfolding ended_of
   ended_last n e m =
-      let same : index_of 10 (drop 2 s) ≡ n = omega (arith, newline) in
-      rw (eq-eqb (2 + index_of 10 (drop 2 s) + 1) (length s) (omega (arith, newline))) (ap (from 2) same)
+      let same : index_of 10 (drop 2 s) ≡ n = omega (arith, first) in
+      rw (eq-eqb (2 + index_of 10 (drop 2 s) + 1) (length s) (omega (arith, first))) (ap (from 2) same)
 
   pub ended_wrong : (end + 1 ≡ length s → ⊥) → ended_of s ≡ Refused (wrong_end 2)
   unfolding ended_of
-  ended_wrong h = rw (ne_eqb (2 + index_of 10 (drop 2 s) + 1) (length s) (λ e. h (omega (arith, newline))))
+  ended_wrong h = rw (ne_eqb (2 + index_of 10 (drop 2 s) + 1) (length s) (λ e. h (omega (arith, first))))
 
 -- Definite
 

@@ -1,9 +1,9 @@
 -- What opening a block finds, for every byte string (document 01, "Blocks", rows 1 to 3): the header of specs/Header, and the rule of
 -- how a block of each form must end.
 use Rattle.std.specs.Prelude.{ℕ, ◌+◌, cond, List, length, take, drop, eqb}
+use Rattle.std.specs.List.{position_or_len}
 use Rattle.units.specs.declared.refusals.Refusal.{Refusal}
 use Rattle.units.specs.Refusals.{success, no_mark, no_digit, wrong_end}
-use Rattle.bytes.specs.Bytes.{index_of}
 use Rattle.opening.specs.declared.headers.Header.{Header}
 use Rattle.opening.specs.declared.headers.Header.TheVariants.{NoMark, NoDigit, OpenEnded, Counted}
 use Rattle.opening.specs.declared.Opening.{Opening}
@@ -13,6 +13,10 @@ use Rattle.opening.specs.Header.{header_in}
 -- a payload of n bytes from index `start` on
 unfoldable pub from : (start n : ℕ) → Opening
 from start n = Payload start (record { 0 = n })
+
+-- The index of the first byte b of s, or the length of s where there is none.
+unfoldable pub index_of : ℕ → List ℕ → ℕ
+index_of b s = position_or_len (λ x. eqb x b) s
 
 -- Open-ended, `#0`: the payload runs up to the first newline, byte 10, which is the last byte of the input.
 unfoldable pub ended_of : List ℕ → Opening

@@ -6,7 +6,7 @@ ghost use Rattle.opening.specs.Header.{is_digit, counted_in, header_in};
 use units::Bytes;
 
 // What the first bytes of an input say.
-#[derive(Drop)]
+#[derive(Clone, Copy)]
 pub enum Header {
     // The first byte is not `#`.
     NoMark,

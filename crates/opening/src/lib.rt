@@ -2,8 +2,8 @@
 // part of the caller's bytes. specs/Opening says what is found in every input.
 #![tactic(auto)]
 
-ghost use Rattle.std.specs.Prelude.{◌≡◌, ◌≤◌, length};
-ghost use Rattle.opening.specs.Opening.{ended_of, counted_of, opening_of, payload_of};
+ghost use Rattle.std.specs.Prelude.{◌≡◌, ◌+◌, ◌≤◌, length, drop};
+ghost use Rattle.opening.specs.Opening.{index_of, ended_of, counted_of, opening_of, payload_of};
 
 mod headers;
 
@@ -11,10 +11,25 @@ pub use headers::{Header, read_header};
 use units::{Bytes, Refusal};
 
 // What opening a block finds: a refusal, or where the payload starts and how many bytes it has.
-#[derive(Drop)]
+#[derive(Clone, Copy)]
 pub enum Opening {
     Refused(Refusal),
     Payload { start: usize, length: Bytes },
+}
+
+// The index of the first byte b from `start` on, or the length where there is none.
+fn find(s: &[u8], start: usize, b: u8) -> usize
+    requires { start ≤ length s.now }
+    ensures { result ≡ start + index_of b (drop start s.now) }
+{
+    let mut i = start;
+    while i < s.len() {
+        if s[i] == b {
+            return i;
+        }
+        i += 1;
+    }
+    i
 }
 
 // Open-ended: the first newline after `#0` is the last byte.
@@ -22,7 +37,7 @@ fn open_ended(block: &[u8]) -> Opening
     requires { 2 ≤ length block.now }
     ensures { result ≡ ended_of block.now }
 {
-    let end = bytes::scan::find(block, 2, block.len(), b'\n');
+    let end = find(block, 2, b'\n');
     if end + 1 == block.len() {
         return Opening::Payload {
             start: 2,
