@@ -1,6 +1,6 @@
 -- Who sends the same places for every table does not meet the promise (fixed_plan_falls_short): where the one signal of a table
 -- lists channel c alone, the answer places it there. Leans on proofs/Deciding; what is said of the two commands is computed.
-use Prim.Native.Nat.{ℕ, ◌+◌, ◌≤◌, ◌<◌}
+use Prim.Native.Nat.{ℕ, ◌≤◌}
 use mathlib.Core.Path.{◌≡◌, refl, ap, sym, ◌∙◌}
 use mathlib.Core.List.{List, [], ◌∷◌, ◌++◌}
 use native.Mathlib.Decide.{ℕ_discrete}

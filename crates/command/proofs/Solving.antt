@@ -1,6 +1,6 @@
 -- An accepted payload unpacked, placed and tallied is solved (solved), and its answer written behind a header is the block that
 -- is promised (written). Leans on the promises of unpack, placer, tally, answer and framing.
-use Prim.Native.Nat.{ℕ, ◌+◌, ◌-◌, ◌*◌, ◌≤◌, ◌<◌}
+use Prim.Native.Nat.{ℕ, ◌+◌, ◌-◌, ◌≤◌}
 use mathlib.Core.Path.{◌≡◌, refl, ap, sym, ◌∙◌}
 use mathlib.Core.List.{List, ◌++◌}
 use native.Mathlib.Omega.{arith}
@@ -12,11 +12,10 @@ use Rattle.units.specs.Limits.{Limits}
 use Rattle.plans.specs.Plan.{Table, Places, Plan}
 use Rattle.plans.specs.Tables.{pick}
 use Rattle.plans.proofs.Sums.{by_under}
-use Rattle.framing.specs.Framing.{longest, header_length, block_length, block_of, Headable, Heads}
+use Rattle.framing.specs.Framing.{longest, block_length, block_of, Headable, Heads}
 use Rattle.framing.proofs.Framed.{header_within, block_behind}
 use Rattle.tables.specs.Payload.{size_in}
 use Rattle.tables.specs.Sound.{Sound}
-use Rattle.work.specs.Work.{NUMBERS}
 use Rattle.work.specs.Input.{Input}
 use Rattle.work.specs.State.{Mates}
 use Rattle.work.specs.Ranks.{table_with, places, Ranks}
@@ -29,12 +28,12 @@ use Rattle.placer.proofs.Best.{placed_from_best}
 use Rattle.tally.specs.Tallying.{Placeable, Tallied}
 use Rattle.tally.proofs.Placeable.{placeable_plan}
 use Rattle.tally.proofs.Regions.{Recorded, recorded}
-use Rattle.answer.specs.Answer.{channel_for, rank_for, place_for, answer_of, answer_length}
+use Rattle.answer.specs.Answer.{channel_for, rank_for, answer_of, answer_length}
 use Rattle.answer.specs.Writing.{Tells}
 use Rattle.answer.proofs.Answered.{written_answer}
 use Rattle.command.specs.Handling.{reply_length, Written}
-use Rattle.command.specs.Inside.{counts_in, places_in, answer_in, Writable, Solved}
-use Rattle.command.proofs.Answers.{answer_size, block_size}
+use Rattle.command.specs.Inside.{counts_in, places_in, answer_in, Solved}
+use Rattle.command.proofs.Answers.{answer_size}
 
 -- the answer's length as the code computes it
 pub reply_length_lem : (z : Size) {m n : ℕ} → m ≡ answer_length z.signals z.ranks → n ≡ block_length m → n ≡ reply_length z

@@ -13,7 +13,7 @@ use Rattle.units.specs.declared.refusals.Refusal.{Refusal}
 use Rattle.opening.specs.declared.Opening.{Opening}
 use Rattle.opening.specs.Opening.{opening_of, opening_refusal, payload_of}
 use Rattle.opening.proofs.Ending.{opening_refused}
-use Rattle.framing.specs.Framing.{header_of, header_length, block_of, block_length}
+use Rattle.framing.specs.Framing.{header_of, block_of, block_length}
 use Rattle.framing.proofs.Framed.{length_header}
 use Rattle.block.specs.Forms.{Block}
 use Rattle.block.specs.Forms.Block.{definite, open_ended}

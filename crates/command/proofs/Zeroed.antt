@@ -1,5 +1,5 @@
 -- Setting the numbers of an area to zero one by one: ZeroBelow, kept by each step (zero_more), is the whole in the end (zero_all).
-use Prim.Native.Nat.{ℕ, suc, ◌+◌, ◌≤◌, ◌<◌}
+use Prim.Native.Nat.{ℕ, ◌+◌, ◌≤◌, ◌<◌}
 use mathlib.Core.Path.{◌≡◌, refl, ◌∙◌, sym}
 use mathlib.Core.List.{List}
 use native.Mathlib.Decide.{ℕ_discrete}

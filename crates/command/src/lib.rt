@@ -18,7 +18,7 @@ use work::NUMBERS;
 
 // What a step that writes a block comes to: a refusal, or success and the length of the block, in bytes.
 #[repr(C)]
-#[derive(Drop)]
+#[derive(Clone, Copy)]
 pub struct Reply {
     pub refusal: Refusal,
     pub length: usize,
