@@ -4,6 +4,7 @@
 
 ghost use Rattle.std.specs.Prelude.{◌≤◌};
 
+use std::io::{self, Read};
 use units::Refusal;
 use work::NUMBERS;
 
@@ -11,20 +12,18 @@ use work::NUMBERS;
 const NONE: u32 = 255;
 
 // Words, then a number.
-fn say(words: &[u8], n: u32) {
-    io::write_all(1, words);
-    io::print_decimal(1, n as u64);
+fn say(rt: &impl Print, words: &str, n: u32) -> io::Result<()> {
+    print!(rt; "{words}{n}")
 }
 
-fn end_line() {
-    io::write_all(1, b"\n");
+fn end_line(rt: &impl Print) -> io::Result<()> {
+    println!(rt)
 }
 
-fn refused(refusal: Refusal) {
-    say(b"refused ", refusal.number);
-    io::write_all(1, b" at ");
-    io::print_decimal(1, refusal.place as u64);
-    end_line();
+fn refused(rt: &impl Print, refusal: Refusal) -> io::Result<()> {
+    say(rt, "refused ", refusal.number)?;
+    print!(rt; " at {}", refusal.place)?;
+    end_line(rt)
 }
 
 // A byte as a number, with its bound.
@@ -64,57 +63,59 @@ fn total(answer: &[u8], ranks: u32) -> u32
     sum
 }
 
-fn list_rank(answer: &[u8], rank: u32)
+fn list_rank(rt: &impl Print, answer: &[u8], rank: u32) -> io::Result<()>
     requires { rank ≤ 255 }
 {
-    say(b"rank ", rank);
-    say(b" ", count_of(answer, rank));
-    end_line();
+    say(rt, "rank ", rank)?;
+    say(rt, " ", count_of(answer, rank))?;
+    end_line(rt)
 }
 
-fn list_ranks(answer: &[u8], ranks: u32)
+fn list_ranks(rt: &impl Print, answer: &[u8], ranks: u32) -> io::Result<()>
     requires { ranks ≤ 255 }
 {
     let mut rank = 0;
     while rank < ranks {
         rank += 1;
-        list_rank(answer, rank);
+        list_rank(rt, answer, rank)?;
     }
+    Ok(())
 }
 
 // Before a signal's place stand the head, the counts and the places of earlier signals.
-fn list_signal(answer: &[u8], ranks: u32, signal: u32)
+fn list_signal(rt: &impl Print, answer: &[u8], ranks: u32, signal: u32) -> io::Result<()>
     requires { (ranks ≤ 255) × (signal ≤ 255) }
 {
     let at = (16 + 8 * ranks + 12 * signal) as usize;
     let channel = fields::read(answer, at, 8);
-    say(b"signal ", signal);
+    say(rt, "signal ", signal)?;
     if channel == NONE {
-        io::write_all(1, b" none");
+        print!(rt; " none")?;
     } else {
-        say(b" channel ", channel);
-        say(b" rank ", fields::read(answer, at + 8, 4));
+        say(rt, " channel ", channel)?;
+        say(rt, " rank ", fields::read(answer, at + 8, 4))?;
     }
-    end_line();
+    end_line(rt)
 }
 
-fn list_signals(answer: &[u8], ranks: u32, signals: u32)
+fn list_signals(rt: &impl Print, answer: &[u8], ranks: u32, signals: u32) -> io::Result<()>
     requires { (ranks ≤ 255) × (signals ≤ 255) }
 {
     let mut signal = 0;
     while signal < signals {
-        list_signal(answer, ranks, signal);
+        list_signal(rt, answer, ranks, signal)?;
         signal += 1;
     }
+    Ok(())
 }
 
-fn list(answer: &[u8]) {
+fn list(rt: &impl Print, answer: &[u8]) -> io::Result<()> {
     let signals = byte_at(answer, 0);
     let ranks = byte_at(answer, 1) / 16;
-    say(b"placed ", total(answer, ranks));
-    end_line();
-    list_ranks(answer, ranks);
-    list_signals(answer, ranks, signals);
+    say(rt, "placed ", total(answer, ranks))?;
+    end_line(rt)?;
+    list_ranks(rt, answer, ranks)?;
+    list_signals(rt, answer, ranks, signals)
 }
 
 // The first n bytes; all where there are fewer.
@@ -126,20 +127,19 @@ fn first(s: &[u8], n: usize) -> &[u8] {
 }
 
 // Handles the input and lists what came of it. The longest answer's block has 322 bytes.
-fn run(input: &[u8]) {
+fn run(rt: &impl Print, input: &[u8]) -> io::Result<()> {
     let mut area = [0u8; 322];
     let mut work = [0u16; NUMBERS];
     let reply = command::handle(input, &mut area, &mut work);
     let refusal = reply.refusal;
     if refusal.number != 0 {
-        refused(refusal);
-        return;
+        return refused(rt, refusal);
     }
-    list(opening::payload(first(&area, reply.length)));
+    list(rt, opening::payload(first(&area, reply.length)))
 }
 
-fn main() {
-    let mut input = [0u8; 8192];
-    let n = io::read_full(0, &mut input);
-    run(&input[..n]);
+fn main(rt: HostRuntime) -> io::Result<()> {
+    let mut input = Vec::new(rt.alloc());
+    rt.reader().take(8192).read_to_end(&mut input)?;
+    run(&rt, input.as_slice())
 }

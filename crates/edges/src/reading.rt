@@ -3,6 +3,7 @@ ghost use Rattle.std.specs.Prelude.{◌≤◌, ◌<◌, length};
 
 use crate::filling::NONE;
 use crate::{filling, say, slices};
+use std::io;
 
 // The words `open`, `check`, `compare`, `frame` and `handle`.
 pub(crate) const OPEN: u64 = 0x6f70656e;
@@ -25,7 +26,7 @@ const AREA: u64 = 0x617265613d;
 const WORK: u64 = 0x776f726b3d;
 
 // The step's word; how many digits the bytes have, and how many of them stand before `with`; the sizes of the lent areas.
-#[derive(Drop)]
+#[derive(Clone, Copy)]
 pub(crate) struct Case {
     pub(crate) step: u64,
     pub(crate) digits: usize,
@@ -115,11 +116,17 @@ pub(crate) fn fault_of(case: Case) -> u8 {
     3
 }
 
-pub(crate) fn reason(fault: u8) {
+pub(crate) fn reason(rt: &impl Print, fault: u8) -> io::Result<()> {
     match fault {
-        1 => say::words(b": no name with a colon, or none of the five steps"),
-        2 => say::words(b": a word that is no text, digits or run, or more than 8192 bytes"),
-        3 => say::words(b": with, area= or work= too much, missing or too large for this step"),
-        _ => say::words(b": half a byte"),
+        1 => say::words(rt, b": no name with a colon, or none of the five steps"),
+        2 => say::words(
+            rt,
+            b": a word that is no text, digits or run, or more than 8192 bytes",
+        ),
+        3 => say::words(
+            rt,
+            b": with, area= or work= too much, missing or too large for this step",
+        ),
+        _ => say::words(rt, b": half a byte"),
     }
 }

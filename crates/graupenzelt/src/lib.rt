@@ -1,4 +1,5 @@
-// The public steps under their C names. Each hands on to the step itself; specs/Exports says what the fields are.
+// The public steps under their C names, for Rattle crates; graupenzelt_c exports them to C. Each hands on to the step itself;
+// specs/Exports says what the fields are.
 #![tactic(auto)]
 
 ghost use Rattle.std.specs.Prelude.{◌≡◌};
@@ -16,7 +17,7 @@ use units::Refusal;
 
 // Where the payload starts, and how many bytes it has.
 #[repr(C)]
-#[derive(Drop)]
+#[derive(Clone, Copy)]
 pub struct OpenReply {
     pub refusal: Refusal,
     pub start: usize,
@@ -25,7 +26,7 @@ pub struct OpenReply {
 
 // The numbers of a table's head.
 #[repr(C)]
-#[derive(Drop)]
+#[derive(Clone, Copy)]
 pub struct CheckReply {
     pub refusal: Refusal,
     pub signals: u32,
@@ -36,14 +37,13 @@ pub struct CheckReply {
 
 // -1 where the first line is the lesser, 1 where it is the greater.
 #[repr(C)]
-#[derive(Drop)]
+#[derive(Clone, Copy)]
 pub struct CompareReply {
     pub refusal: Refusal,
     pub order: i32,
 }
 
-#[unsafe(no_mangle)]
-pub extern "C" fn graupenzelt_open(block: &[u8]) -> OpenReply
+pub fn graupenzelt_open(block: &[u8]) -> OpenReply
     ensures { result ≡ open_reply (opening_of block.now) }
 {
     let opening = open(block);
@@ -61,8 +61,7 @@ pub extern "C" fn graupenzelt_open(block: &[u8]) -> OpenReply
     }
 }
 
-#[unsafe(no_mangle)]
-pub extern "C" fn graupenzelt_frame(payload: &[u8], area: &mut [u8]) -> Reply
+pub fn graupenzelt_frame(payload: &[u8], area: &mut [u8]) -> Reply
     ensures { FramesInto payload.now area.old result area.new }
 {
     let framing = frame(payload, area);
@@ -75,8 +74,7 @@ pub extern "C" fn graupenzelt_frame(payload: &[u8], area: &mut [u8]) -> Reply
     }
 }
 
-#[unsafe(no_mangle)]
-pub extern "C" fn graupenzelt_check(payload: &[u8]) -> CheckReply
+pub fn graupenzelt_check(payload: &[u8]) -> CheckReply
     ensures { result ≡ check_reply (checked_of payload.now) }
 {
     let checked = check(payload);
@@ -98,8 +96,7 @@ pub extern "C" fn graupenzelt_check(payload: &[u8]) -> CheckReply
     }
 }
 
-#[unsafe(no_mangle)]
-pub extern "C" fn graupenzelt_compare(a: &[u8], b: &[u8]) -> CompareReply
+pub fn graupenzelt_compare(a: &[u8], b: &[u8]) -> CompareReply
     ensures { ComparesLines a.now b.now result }
 {
     let comparison = compare(a, b);
@@ -109,8 +106,7 @@ pub extern "C" fn graupenzelt_compare(a: &[u8], b: &[u8]) -> CompareReply
     }
 }
 
-#[unsafe(no_mangle)]
-pub extern "C" fn graupenzelt_handle(block: &[u8], area: &mut [u8], work: &mut [u16]) -> Reply
+pub fn graupenzelt_handle(block: &[u8], area: &mut [u8], work: &mut [u16]) -> Reply
     ensures { Handles block.now area.old work.old result area.new work.new }
 {
     handle(block, area, work)
