@@ -43,6 +43,19 @@ void *memcpy(void *restrict to, const void *restrict from, size_t n)
     return to;
 }
 
+void *memmove(void *to, const void *from, size_t n)
+{
+    volatile uint8_t *target = to;
+    const uint8_t *source = from;
+    if ((uintptr_t)to <= (uintptr_t)from)
+        for (size_t i = 0; i < n; i++)
+            target[i] = source[i];
+    else
+        for (size_t i = n; i > 0; i--)
+            target[i - 1] = source[i - 1];
+    return to;
+}
+
 static long kernel(long call, long a, long b, long c)
 {
     long result;

@@ -1,5 +1,5 @@
 /* Times the steps inside a command, each by itself: steps BLOCK. The module is linked with the names of its inner steps (second/measure
-   --steps); a slice is handed over as a pointer to its address and its length. */
+   --steps); a slice is handed over as its address and its length. */
 #define _POSIX_C_SOURCE 200809L
 #include <stdio.h>
 #include <string.h>
@@ -9,11 +9,6 @@
 
 #define REPETITIONS 5000
 #define MOST 8192
-
-struct slice {
-    void *at;
-    size_t length;
-};
 
 struct size {
     size_t signals, channels, ranks;
@@ -25,12 +20,12 @@ struct checked {
     uint64_t words[8];
 };
 
-void step_check(struct checked *, const struct slice *payload);
-void step_unpack(const struct slice *payload, const struct slice *work, const struct size *);
-void step_place(const struct slice *work, const struct size *);
-void step_tally(const struct slice *work, const struct size *);
-void step_write_payload(const struct slice *out, const struct slice *work, size_t signals, size_t ranks);
-void step_zero(const struct slice *work);
+void step_check(struct checked *, const uint8_t *payload, size_t n);
+void step_unpack(const uint8_t *payload, size_t n, uint16_t *work, size_t k, const struct size *);
+void step_place(uint16_t *work, size_t k, const struct size *);
+void step_tally(uint16_t *work, size_t k, const struct size *);
+void step_write_payload(uint8_t *out, size_t m, const uint16_t *work, size_t k, size_t signals, size_t ranks);
+void step_zero(uint16_t *work, size_t k);
 
 enum { NOTHING, CHECK, UNPACK, PLACE, TALLY, WRITE, ZERO, STEPS };
 static const char *const names[STEPS] = {
@@ -48,22 +43,21 @@ static double microseconds(void)
 }
 
 /* One command, step by step, with the time at each step's end. */
-static void command(const struct slice *payload, const struct size *size, double ends[STEPS])
+static void command(const uint8_t *payload, size_t n, const struct size *size, double ends[STEPS])
 {
-    const struct slice w = {work, GRAUPENZELT_WORK}, o = {out, sizeof out};
     struct checked checked;
     ends[NOTHING] = microseconds();
-    step_check(&checked, payload);
+    step_check(&checked, payload, n);
     ends[CHECK] = microseconds();
-    step_unpack(payload, &w, size);
+    step_unpack(payload, n, work, GRAUPENZELT_WORK, size);
     ends[UNPACK] = microseconds();
-    step_place(&w, size);
+    step_place(work, GRAUPENZELT_WORK, size);
     ends[PLACE] = microseconds();
-    step_tally(&w, size);
+    step_tally(work, GRAUPENZELT_WORK, size);
     ends[TALLY] = microseconds();
-    step_write_payload(&o, &w, size->signals, size->ranks);
+    step_write_payload(out, sizeof out, work, GRAUPENZELT_WORK, size->signals, size->ranks);
     ends[WRITE] = microseconds();
-    step_zero(&w);
+    step_zero(work, GRAUPENZELT_WORK);
     ends[ZERO] = microseconds();
 }
 
@@ -84,7 +78,7 @@ int main(int count, char **words)
     }
     struct graupenzelt_opened opened = graupenzelt_open(block, n);
     struct graupenzelt_checked table = graupenzelt_check(block + opened.start, opened.length);
-    const struct slice payload = {block + opened.start, opened.length};
+    const uint8_t *payload = block + opened.start;
     const struct size size = {table.signals, table.channels, table.ranks, (uint16_t)table.pairs};
 
     double shortest[STEPS], ends[STEPS];
@@ -92,7 +86,7 @@ int main(int count, char **words)
         shortest[step] = 1e9;
     for (int i = 0; i < REPETITIONS; i++) {
         double begin = microseconds();
-        command(&payload, &size, ends);
+        command(payload, opened.length, &size, ends);
         for (int step = 0; step < STEPS; step++) {
             double took = ends[step] - begin;
             begin = ends[step];
