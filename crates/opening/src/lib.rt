@@ -17,27 +17,20 @@ pub enum Opening {
     Payload { start: usize, length: Bytes },
 }
 
-// The index of the first byte b from `start` on, or the length where there is none.
-fn find(s: &[u8], start: usize, b: u8) -> usize
-    requires { start ≤ length s.now }
-    ensures { result ≡ start + index_of b (drop start s.now) }
+// The index of the first byte b, or the length where there is none.
+fn find(s: &[u8], b: u8) -> usize
+    ensures { result ≡ index_of b s.now }
 {
-    let mut i = start;
-    while i < s.len() {
-        if s[i] == b {
-            return i;
-        }
-        i += 1;
-    }
-    i
+    s.iter().position(|&x| x == b).unwrap_or(s.len())
 }
 
 // Open-ended: the first newline after `#0` is the last byte.
+#[tactic(auto, using(crate::proofs::Search::index_within))]
 fn open_ended(block: &[u8]) -> Opening
     requires { 2 ≤ length block.now }
     ensures { result ≡ ended_of block.now }
 {
-    let end = find(block, 2, b'\n');
+    let end = 2 + find(&block[2..], b'\n');
     if end + 1 == block.len() {
         return Opening::Payload {
             start: 2,
