@@ -24,8 +24,10 @@ void step_check(struct checked *, const uint8_t *payload, size_t n);
 void step_unpack(const uint8_t *payload, size_t n, uint16_t *work, size_t k, const struct size *);
 void step_place(uint16_t *work, size_t k, const struct size *);
 void step_tally(uint16_t *work, size_t k, const struct size *);
-void step_write_payload(uint8_t *out, size_t m, const uint16_t *work, size_t k, size_t signals, size_t ranks);
-void step_zero(uint16_t *work, size_t k);
+void step_write(uint8_t *out, size_t m, const uint16_t *counts, size_t ranks, const uint16_t *places, size_t signals);
+
+/* Where the work area has the places and the counts of a finished plan. */
+enum { PLACES = 10617, COUNTS = 10817 };
 
 enum { NOTHING, CHECK, UNPACK, PLACE, TALLY, WRITE, ZERO, STEPS };
 static const char *const names[STEPS] = {
@@ -55,9 +57,9 @@ static void command(const uint8_t *payload, size_t n, const struct size *size, d
     ends[PLACE] = microseconds();
     step_tally(work, GRAUPENZELT_WORK, size);
     ends[TALLY] = microseconds();
-    step_write_payload(out, sizeof out, work, GRAUPENZELT_WORK, size->signals, size->ranks);
+    step_write(out, sizeof out, work + COUNTS, size->ranks, work + PLACES, size->signals);
     ends[WRITE] = microseconds();
-    step_zero(work, GRAUPENZELT_WORK);
+    memset(work, 0, sizeof work);
     ends[ZERO] = microseconds();
 }
 

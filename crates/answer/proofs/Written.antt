@@ -1,12 +1,12 @@
 -- What each writer leaves: stores one behind the other (two_stored, three_stored), so a group of fields; one more count
--- (counts_more); two more places or the last (Paired); and the whole payload (payload_written). Leans on proofs/Bytes and
--- proofs/Splicing.
-use Prim.Native.Nat.{ℕ, suc, ◌+◌, ◌-◌, ◌*◌, ◌/◌, ◌%◌, ◌≤◌, ◌<◌}
+-- (counts_more); two more places or the last (places_more, places_last); and the whole payload (payload_written). Leans on
+-- proofs/Bytes and proofs/Splicing.
+use Prim.Native.Nat.{ℕ, suc, ◌+◌, ◌*◌, ◌/◌, ◌%◌, ◌≤◌, ◌<◌}
 use mathlib.Core.Path.{◌≡◌, refl, ◌∙◌}
 use mathlib.Core.List.{List, [], ◌∷◌, ◌++◌, append_assoc}
 use native.Mathlib.Numerals.{add-one}
 use native.Mathlib.Omega.{arith}
-use lib.ListN.{length, drop, set, length-append}
+use lib.ListN.{length, drop, set, length-set, length-append}
 use Rattle.fields.specs.Fields.{all_bits, bits_in, gathered, packed}
 use Rattle.fields.proofs.Packing.{length-packed}
 use Rattle.answer.specs.Answer.{field, head_fields, row, payload_fields, answer_length}
@@ -16,34 +16,27 @@ use Rattle.answer.proofs.Splicing.{spliced_none, spliced_byte, spliced_next, spl
 
 -- Stores one behind the other
 
-stored : (i x : ℕ) {o p : List ℕ} → i < length o → p ≡ set o i x → Spliced i (x ∷ []) o p
-stored i x {o} l e = rw e (spliced_byte i x o l)
+module _ {o : List ℕ} (i a b : ℕ) where
+  two_stored : i + 2 ≤ length o → Spliced i (a ∷ b ∷ []) o (set (set o i a) (i + 1) b)
+  two_stored l =
+      spliced_next (spliced_byte i a o (omega arith)) (omega arith) (spliced_byte (i + 1) b _ (omega (arith, length-set o i a)))
 
-two_stored : {i a b : ℕ} {o p q : List ℕ} → i + 2 ≤ length o → p ≡ set o i a → q ≡ set p (i + 1) b → Spliced i (a ∷ b ∷ []) o q
-two_stored {i} {a} {b} {o} {p} l e f =
-    let first : Spliced i (a ∷ []) o p = stored i a (omega arith) e in
-    spliced_next first (omega arith) (stored (i + 1) b (omega (arith, first.size)) f)
+  three_stored : (c : ℕ) → i + 3 ≤ length o → Spliced i (a ∷ b ∷ c ∷ []) o (set (set (set o i a) (i + 1) b) (i + 2) c)
+  three_stored c l =
+      let two = two_stored (omega arith) in
+      spliced_next two (omega arith) (spliced_byte (i + 2) c _ (omega (arith, two.size)))
 
-three_stored : {i a b c : ℕ} {o p q r : List ℕ} → i + 3 ≤ length o → p ≡ set o i a → q ≡ set p (i + 1) b → r ≡ set q (i + 2) c
-    → Spliced i (a ∷ b ∷ c ∷ []) o r
-three_stored {i} {a} {b} {c} {o} {p} {q} l e f g =
-    let first : Spliced i (a ∷ b ∷ []) o q = two_stored (omega arith) e f in
-    spliced_next first (omega arith) (stored (i + 2) c (omega (arith, first.size)) g)
-
-module _ {o p q : List ℕ} where
-  pub head_written : (S R : ℕ) → S ≤ 200 → R ≤ 15 → 2 ≤ length o → p ≡ set o 0 S → q ≡ set p 1 (16 * R)
-      → Spliced 0 (packed (head_fields S R)) o q
-  head_written S R l m room e f = rw (head_bytes S R (omega arith) (omega arith)) (two_stored (omega arith) e f)
+module _ {o : List ℕ} where
+  pub head_written : (S R : ℕ) → S ≤ 200 → R ≤ 15 → 2 ≤ length o → Spliced 0 (packed (head_fields S R)) o (set (set o 0 S) 1 (16 * R))
+  head_written S R l m room = rw (head_bytes S R (omega arith) (omega arith)) (two_stored 0 S (16 * R) room)
 
   module _ (i x : ℕ) (fits : x < 4096) where
-    pub last_written : i + 2 ≤ length o → p ≡ set o i (x / 16) → q ≡ set p (i + 1) (x % 16 * 16)
-        → Spliced i (packed (field 12 x ∷ [])) o q
-    last_written room e f = rw (last_bytes x fits) (two_stored room e f)
+    pub last_written : i + 2 ≤ length o → Spliced i (packed (field 12 x ∷ [])) o (set (set o i (x / 16)) (i + 1) (x % 16 * 16))
+    last_written room = rw (last_bytes x fits) (two_stored i _ _ room)
 
-    pub two_written : {r : List ℕ} (y : ℕ) → y < 4096 → i + 3 ≤ length o → p ≡ set o i (x / 16)
-        → q ≡ set p (i + 1) (x % 16 * 16 + y / 256) → r ≡ set q (i + 2) (y % 256)
-        → Spliced i (packed (field 12 x ∷ field 12 y ∷ [])) o r
-    two_written y also room e f g = rw (two_bytes x y fits also) (three_stored room e f g)
+    pub two_written : (y : ℕ) → y < 4096 → i + 3 ≤ length o
+        → Spliced i (packed (field 12 x ∷ field 12 y ∷ [])) o (set (set (set o i (x / 16)) (i + 1) (x % 16 * 16 + y / 256)) (i + 2) (y % 256))
+    two_written y also room = rw (two_bytes x y fits also) (three_stored i _ _ _ room)
 
 -- Rows
 
@@ -51,46 +44,29 @@ pub row_none : (start width : ℕ) (f : ℕ → ℕ) (o : List ℕ) → Spliced 
 unfolding packed gathered all_bits bits_in row
 row_none start width f o = spliced_none start o
 
-pub counts_more : (f : ℕ → ℕ) (i : ℕ) {x : ℕ} {o p q : List ℕ} → Spliced 2 (packed (row 8 i f)) o p → 2 + i < length o
-    → x ≡ f i → f i < 256 → q ≡ set p (2 + i) x → Spliced 2 (packed (row 8 (i + 1) f)) o q
-counts_more f i {x} {o} {p} s room e l g =
+pub counts_more : (f : ℕ → ℕ) (i : ℕ) {o p : List ℕ} → Spliced 2 (packed (row 8 i f)) o p → 2 + i < length o → f i < 256
+    → Spliced 2 (packed (row 8 (i + 1) f)) o (set p (2 + i) (f i))
+counts_more f i {o} {p} s room l =
     rw (add-one i, row_count f i l)
     (spliced_next s (omega (arith, length_counts f i))
-    (rw (length_counts f i, ← e) (stored (2 + i) x (omega (arith, s.size)) g)))
+    (rw (length_counts f i) (spliced_byte (2 + i) (f i) p (omega (arith, s.size)))))
 
--- An even number s of places, two in three bytes, are written from `start` on; the next goes to byte i.
-pub record Paired (g : ℕ → ℕ) (start s i : ℕ) (o p : List ℕ) : Type 0 where
-  pub next : 2 * i ≡ 2 * start + 3 * s
-  pub spliced : Spliced start (packed (row 12 s g)) o p
+-- Two places are three bytes, so behind an even number of them whole bytes end, and two more come there, or the last.
+module _ (g : ℕ → ℕ) (start two : ℕ) {o p : List ℕ} (s : Spliced start (packed (row 12 (2 * two) g)) o p)
+    (room : start + 3 * two ≤ length o) where
+  here : start + length (packed (row 12 (2 * two) g)) ≡ start + 3 * two
+  here = omega (arith, length-places g (2 * two))
 
-pub paired_none : (g : ℕ → ℕ) (start : ℕ) (o : List ℕ) → Paired g start 0 start o o
-paired_none g start o = record { next = omega arith; spliced = row_none start 12 g o }
+  pub places_more : {q : List ℕ} → Spliced (start + 3 * two) (packed (field 12 (g (2 * two)) ∷ field 12 (g (2 * two + 1)) ∷ [])) p q
+      → Spliced start (packed (row 12 (2 * (two + 1)) g)) o q
+  places_more more =
+      let n : 2 * (two + 1) ≡ suc (suc (2 * two)) = omega arith in
+      rw (n, row_two g (2 * two) (3 * two) (omega arith), ← add-one (2 * two)) (spliced_next s (omega (arith, here)) (rw here more))
 
-module _ {g : ℕ → ℕ} {start s i : ℕ} {o p : List ℕ} (P : Paired g start s i o p) where
-  here : start + length (packed (row 12 s g)) ≡ i
-  here = omega (arith, length-places g s, P.next)
-
-  pub paired_more : {q : List ℕ} (x y : ℕ) → i + 3 ≤ length o → x ≡ g s → y ≡ g (s + 1)
-      → Spliced i (packed (field 12 x ∷ field 12 y ∷ [])) p q → Paired g start (s + 2) (i + 3) o q
-  paired_more x y room e f two =
-      let more : s + 2 ≡ suc (suc s) = omega arith in
-      record {
-        next = omega (arith, P.next);
-        spliced =
-            rw (more, row_two g s (i - start) (omega (arith, P.next)), ← e, ← add-one s, ← f)
-            (spliced_next P.spliced (omega (arith, here)) (rw here two));
-      }
-
-  -- All places, where their number is odd and where it is even
-  pub paired_last : {q : List ℕ} (n x : ℕ) → s < n → n ≤ s + 1 → i + 2 ≤ length o → x ≡ g s → Spliced i (packed (field 12 x ∷ [])) p q
+  pub places_last : {q : List ℕ} (n : ℕ) → n ≡ 2 * two + 1 → Spliced (start + 3 * two) (packed (field 12 (g (2 * two)) ∷ [])) p q
       → Spliced start (packed (row 12 n g)) o q
-  paired_last n x l m room e last =
-      let end : n ≡ suc s = omega arith in
-      rw (end, row_last g s (i - start) (omega (arith, P.next)), ← e)
-      (spliced_next P.spliced (omega (arith, here)) (rw here last))
-
-  pub paired_all : (n : ℕ) → n ≤ s → s ≤ n → Spliced start (packed (row 12 n g)) o p
-  paired_all n l m = let end : n ≡ s = omega arith in rw end P.spliced
+  places_last n odd last =
+      rw (odd, add-one (2 * two), row_last g (2 * two) (3 * two) (omega arith)) (spliced_next s (omega (arith, here)) (rw here last))
 
 -- The whole payload
 

@@ -3,21 +3,25 @@
 -- Leans on opening's laws of the header and of how a block must end.
 use Prim.Native.Nat.{ℕ, suc, ◌+◌, ◌-◌, ◌<◌}
 use mathlib.Core.Path.{◌≡◌, refl, ap, sym, ◌∙◌}
-use mathlib.Core.Bool.{Bool, true, false, cond}
 use mathlib.Core.List.{List, [], ◌∷◌, ◌++◌}
 use native.Mathlib.Omega.{arith}
-use lib.ListN.{length, get_or, take, drop, length-append, get_or-append, length-drop, length-take, take-append-drop, drop_of_length-le}
-use lib.Seq.{take_all, take_at, get_or-take, get_or_at, drop-cons}
+use lib.ListN.{length, get_or, take, drop, length-drop, length-take, take-append-drop, drop_of_length-le}
+use lib.Seq.{take_all, take_at, get_or-take, drop-cons}
 use lib.Dec.{eqb}
-use borrow.Author.Tests.{eq-eqb, ne_eqb, eqb-true, eqb-false}
+use borrow.Author.Tests.{eqb-true, eqb-false}
 use Rattle.std.proofs.lemmas.List.Sums.{position_or_len_is, passes_at_first, fails_before_first}
-use Rattle.units.specs.Refusals.{wrong_end}
+use Rattle.std.specs.Prelude.{Result, Ok, Err}
+use Rattle.std.proofs.lemmas.Bool.{cond_both}
+use Rattle.std.proofs.lemmas.Bool.Decides.{nat_tests}
+use Rattle.std.proofs.lemmas.Grind.{common_steps}
+use Rattle.units.specs.declared.refusals.Refusal.{Refusal}
+use Rattle.units.specs.declared.refusals.Refusal.TheVariants.{NoMark, NoDigit, WrongEnd}
+use Rattle.units.specs.Refusals.{status_of}
+use Rattle.opening.specs.declared.headers.Part.{Part}
 use Rattle.opening.specs.declared.headers.Header.{Header}
-use Rattle.opening.specs.declared.headers.Header.TheVariants.{NoMark, NoDigit, OpenEnded, Counted}
-use Rattle.opening.specs.declared.Opening.{Opening}
-use Rattle.opening.specs.declared.Opening.TheVariants.{Refused}
+use Rattle.opening.specs.declared.headers.Header.TheVariants.{OpenEnded, Counted}
 use Rattle.opening.specs.Header.{OpenHeader, header_in, counting, Counts, HeaderSays}
-use Rattle.opening.specs.Opening.{index_of, ended_of, counted_of, opening_by, opening_of, opening_refusal, opening_start, opening_length, payload_of, from}
+use Rattle.opening.specs.Opening.{index_of, ended_of, counted_of, opening_by, opening_of, opening_start, opening_length, payload_of, from}
 use Rattle.opening.proofs.Digits.{header_inside}
 use Rattle.opening.proofs.Reading.{header_says, header_ended, counts_header}
 use Rattle.opening.proofs.Ending.{opening_from, counted_ends}
@@ -37,13 +41,12 @@ index_before b t i l e = eqb-false (get_or t i 0) b (fails_before_first (λ x. e
 index_append : (b : ℕ) (p rest : List ℕ) → ((i : ℕ) → i < length p → get_or p i 0 ≡ b → ⊥) → index_of b (p ++ (b ∷ rest)) ≡ length p
 unfolding index_of
 index_append b p rest h =
-    position_or_len_is (λ x. eqb x b) (p ++ (b ∷ rest)) (length p) 0 (omega (arith, length-append p (b ∷ rest)))
-    (λ k l. ne_eqb (get_or (p ++ (b ∷ rest)) k 0) b (λ e. h k l (sym (get_or-append p (b ∷ rest) 0 k l) ∙ e)))
-    (λ l. eq-eqb (get_or (p ++ (b ∷ rest)) (length p) 0) b (get_or_at p b rest 0 (length p) refl))
+    position_or_len_is (λ x. eqb x b) (p ++ (b ∷ rest)) (length p) 0 (grind (arith, common_steps))
+    (λ k l. grind (arith, nat_tests, common_steps, h k)) (λ l. grind (arith, nat_tests, common_steps))
 
 -- What an answer of opening s hands back is a payload that a form marks, if the answer is no refusal.
-Marks : (List ℕ → List ℕ → Type 0) → List ℕ → Opening → Type 0
-Marks Form s o = (opening_refusal o).number ≡ 0 → Form s (take (opening_length o) (drop (opening_start o) s))
+Marks : (List ℕ → List ℕ → Type 0) → List ℕ → Result Part Refusal → Type 0
+Marks Form s o = (status_of o).number ≡ 0 → Form s (take (opening_length o) (drop (opening_start o) s))
 
 -- The open-ended form
 
@@ -57,65 +60,60 @@ ended_rest t e =
     ∙ ap (λ (l : List ℕ). get_or t n 0 ∷ l) (drop_of_length-le t {i = suc n} (omega arith))
     ∙ ap (λ (b : ℕ). b ∷ []) (index_at 10 t (omega arith)))
 
-module _ (s : List ℕ) (header : OpenHeader s) where
-  ended_form : Marks OpenEndedForm s (ended_of s)
-  unfolding Marks ended_of from
-  ended_form = go (eqb (2 + n + 1) (length s)) refl
-    where
-      n : ℕ
-      n = index_of 10 (drop 2 s)
-
-      go : (b : Bool) → eqb (2 + n + 1) (length s) ≡ b → Marks OpenEndedForm s (cond b (from 2 n) (Refused (wrong_end 2)))
-      go true e z =
-          let whole : n + 1 ≡ length (drop 2 s) = omega (arith, length-drop 2 s, eqb-true (2 + n + 1) (length s) e) in
-          record {
-            header = header;
-            rest = ended_rest (drop 2 s) whole;
-            plain = λ i l h. index_before 10 (drop 2 s) i (omega (arith, length-take n (drop 2 s))) (sym (get_or-take n (drop 2 s) i 0 (omega (arith, length-take n (drop 2 s)))) ∙ h);
-          }
-      go false e z = absurd (omega (arith, z))
+ended_form : (s : List ℕ) → OpenHeader s → Marks OpenEndedForm s (ended_of s)
+unfolding Marks ended_of from
+ended_form s header =
+    let n = index_of 10 (drop 2 s) in
+    cond_both (eqb (2 + n + 1) (length s)) (from 2 n) (Err (WrongEnd 2)) (Marks OpenEndedForm s)
+    (λ e z.
+    let whole : n + 1 ≡ length (drop 2 s) = omega (arith, length-drop 2 s, eqb-true (2 + n + 1) (length s) e) in
+    record {
+      header = header;
+      rest = ended_rest (drop 2 s) whole;
+      plain = λ i l h. index_before 10 (drop 2 s) i (omega (arith, length-take n (drop 2 s))) (sym (get_or-take n (drop 2 s) i 0 (omega (arith, length-take n (drop 2 s)))) ∙ h);
+    })
+    (λ e z. absurd (omega (arith, z)))
 
 ended_opens : (s p : List ℕ) → OpenEndedForm s p → ended_of s ≡ from 2 (length p)
 unfolding ended_of
 ended_opens s p f =
     let n : index_of 10 (drop 2 s) ≡ length p = rw f.rest (index_append 10 p [] f.plain) in
-    let size : length s - 2 ≡ length p + 1 = sym (length-drop 2 s) ∙ ap length f.rest ∙ length-append p (10 ∷ []) in
-    rw (n, eq-eqb (2 + length p + 1) (length s) (omega arith))
+    rw n (grind (arith, nat_tests, common_steps, f.rest))
 
 -- The definite form
 
 counted_form : (s : List ℕ) (start n : ℕ) → Counts s start n → Marks DefiniteForm s (counted_of s start n)
 unfolding Marks counted_of from
-counted_form s start n f = go (eqb (start + n) (length s)) refl
-  where
-    go : (b : Bool) → eqb (start + n) (length s) ≡ b → Marks DefiniteForm s (cond b (from start n) (Refused (wrong_end start)))
-    go true e z =
-        let size : length (drop start s) ≡ n = omega (arith, length-drop start s, eqb-true (start + n) (length s) e) in
-        let whole : take n (drop start s) ≡ drop start s = take_all n (drop start s) (omega arith) in
-        record { start = start; header = rw (whole, size) f; rest = sym whole }
-    go false e z = absurd (omega (arith, z))
+counted_form s start n f =
+    cond_both (eqb (start + n) (length s)) (from start n) (Err (WrongEnd start)) (Marks DefiniteForm s)
+    (λ e z.
+    let size : length (drop start s) ≡ n = omega (arith, length-drop start s, eqb-true (start + n) (length s) e) in
+    let whole : take n (drop start s) ≡ drop start s = take_all n (drop start s) (omega arith) in
+    record { start = start; header = rw (whole, size) f; rest = sym whole })
+    (λ e z. absurd (omega (arith, z)))
 
 definite_opens : (s p : List ℕ) (f : DefiniteForm s p) → opening_of s ≡ from f.start (length p)
 unfolding opening_by counting
 definite_opens s p f =
     let h = f.header in
-    let size : length s - f.start ≡ length p = sym (length-drop f.start s) ∙ ap length f.rest in
-    opening_from s (header_in s) (counting f.start (length p)) refl (counts_header s h)
+    let size : length s - f.start ≡ length p = grind (arith, common_steps, f.rest) in
+    opening_from s (header_in s) (Ok (counting f.start (length p))) refl (counts_header s h)
     ∙ counted_ends s f.start (length p) (omega (arith, size, h.at, header_inside s h.k h.some h.digits))
 
 -- Either form
 
-marks_by : (s : List ℕ) (h : Header) → HeaderSays s h → Marks Block s (opening_by s h)
+marks_by : (s : List ℕ) (h : Result Header Refusal) → HeaderSays s h → Marks Block s (opening_by s h)
 unfolding HeaderSays opening_by Marks
-marks_by s NoMark f z = absurd (omega (arith, z))
-marks_by s (NoDigit i) f z = absurd (omega (arith, z))
-marks_by s OpenEnded f z = open_ended (ended_form s f z)
-marks_by s (Counted start n) f z = definite (counted_form s start n.0 f z)
+marks_by s (Err NoMark) f z = absurd (omega (arith, z))
+marks_by s (Err (NoDigit i)) f z = absurd (omega (arith, z))
+marks_by s (Err other) f z = absurd f
+marks_by s (Ok OpenEnded) f z = open_ended (ended_form s f z)
+marks_by s (Ok (Counted part)) f z = definite (counted_form s part.start part.length.0 f z)
 
 -- Main results
 
 -- What opens is a block of one of the two forms, and what is handed back is its payload.
-pub opened_form : (s : List ℕ) → (opening_refusal (opening_of s)).number ≡ 0 → Block s (payload_of s)
+pub opened_form : (s : List ℕ) → (status_of (opening_of s)).number ≡ 0 → Block s (payload_of s)
 unfolding opening_of payload_of Marks
 opened_form s = marks_by s (header_in s) (header_says s)
 
@@ -125,10 +123,10 @@ unfolding payload_of from opening_by
 form_opened s p (definite f) =
     let e : opening_of s ≡ from f.start (length p) = definite_opens s p f in
     record {
-      succeeds = ap opening_refusal e;
+      succeeds = ap status_of e;
       payload = rw e (take_all (length p) (drop f.start s) (rw f.rest (omega arith)) ∙ f.rest);
     }
 form_opened s p (open_ended f) =
     let e : opening_of s ≡ from 2 (length p) =
-    opening_from s (header_in s) OpenEnded refl (header_ended s f.header.mark f.header.form) ∙ ended_opens s p f in
-    record { succeeds = ap opening_refusal e; payload = rw e (rw f.rest (take_at p (10 ∷ []) (length p) refl)) }
+    opening_from s (header_in s) (Ok OpenEnded) refl (header_ended s f.header.mark f.header.form) ∙ ended_opens s p f in
+    record { succeeds = ap status_of e; payload = rw e (rw f.rest (take_at p (10 ∷ []) (length p) refl)) }

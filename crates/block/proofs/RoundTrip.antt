@@ -5,13 +5,13 @@
 use Prim.Native.Nat.{ℕ, zero, suc, ◌+◌, ◌/◌, ◌%◌, ◌^◌, ◌≤◌, ◌<◌}
 use mathlib.Core.Path.{◌≡◌, refl, ap, sym, ◌∙◌}
 use mathlib.Core.Bool.{true}
-use mathlib.Core.List.{List, [], ◌∷◌}
-use native.Mathlib.Nat.{pow-suc, pow-zero, pow-le-pow_right, lt_of_not-le}
-use native.Mathlib.Decide.{dec_lt}
+use mathlib.Core.List.{List, []}
+use native.Mathlib.Nat.{pow-suc, pow-zero, pow-le-pow_right}
 use native.Mathlib.Omega.{arith}
-use lib.ListN.{length, get_or, get_or-append, length-drop}
+use lib.ListN.{length, get_or, length-drop}
 use lib.Seq.{get_or_at, drop_at}
-use borrow.Author.Tests.{lt-ltb, le-ltb}
+use Rattle.std.proofs.lemmas.Bool.Decides.{nat_tests}
+use Rattle.std.proofs.lemmas.Grind.{common_steps}
 use Rattle.opening.specs.Header.{digits_at2, count_at2}
 use Rattle.opening.proofs.Digits.{digit_yes, header_inside, count_below}
 use Rattle.framing.specs.Framing.{longest, width_of, digits_of, header_of, header_length, block_of, block_length}
@@ -28,29 +28,19 @@ record Wide (n k : ℕ) : Type 0 where
   fits : n < 10 ^ k
   least : (j : ℕ) → 1 ≤ j → n < 10 ^ j → k ≤ j
 
+-- a number that needs more than m digits does not fit j of them for j up to m
+more : (n m j : ℕ) → 10 ^ m ≤ n → n < 10 ^ j → m < j
+more n m j l h = grind (arith, pow-le-pow_right {n = 10} (omega arith) {i = j} {j = m})
+
 wide : (n : ℕ) → n ≤ longest → Wide n (width_of n)
 unfolding width_of
-wide n short = go (dec_lt n 10) (dec_lt n 100) (dec_lt n 1000)
-  where
-    -- a number that needs more than m digits does not fit j of them for j up to m
-    more : (m j : ℕ) → 10 ^ m ≤ n → n < 10 ^ j → m < j
-    more m j l h = pick (dec_lt m j)
-      where
-        pick : Dec (m < j) → m < j
-        pick (yes k) = k
-        pick (no k) = absurd (omega (arith, pow-le-pow_right {n = 10} (omega arith) {i = j} {j = m} (omega (arith, lt_of_not-le k))))
-
-    go : Dec (n < 10) → Dec (n < 100) → Dec (n < 1000) → Wide n (width_of n)
-    go (yes a) b c = rw (lt-ltb n 10 a) (record { some = omega arith; few = omega arith; fits = omega arith; least = λ j l h. l })
-    go (no a) (yes b) c =
-        rw (le-ltb n 10 (omega (arith, lt_of_not-le a)), lt-ltb n 100 b)
-        (record { some = omega arith; few = omega arith; fits = omega arith; least = λ j l h. more 1 j (omega (arith, lt_of_not-le a)) h })
-    go (no a) (no b) (yes c) =
-        rw (le-ltb n 10 (omega (arith, lt_of_not-le a)), le-ltb n 100 (omega (arith, lt_of_not-le b)), lt-ltb n 1000 c)
-        (record { some = omega arith; few = omega arith; fits = omega arith; least = λ j l h. more 2 j (omega (arith, lt_of_not-le b)) h })
-    go (no a) (no b) (no c) =
-        rw (le-ltb n 10 (omega (arith, lt_of_not-le a)), le-ltb n 100 (omega (arith, lt_of_not-le b)), le-ltb n 1000 (omega (arith, lt_of_not-le c)))
-        (record { some = omega arith; few = omega arith; fits = omega arith; least = λ j l h. more 3 j (omega (arith, lt_of_not-le c)) h })
+wide n short =
+    record {
+      some = grind (arith, nat_tests);
+      few = grind (arith, nat_tests);
+      fits = grind (arith, nat_tests);
+      least = λ j l h. grind (arith, nat_tests, more n 1 j, more n 2 j, more n 3 j);
+    }
 
 -- Bytes that hold the k digits of n from index 2 on are digits, and are read as n.
 read_digits : (s : List ℕ) (k n : ℕ) → n < 10 ^ k → ((j : ℕ) → j < k → get_or s (2 + j) 0 ≡ get_or (digits_of k n) j 0)
@@ -58,15 +48,10 @@ read_digits : (s : List ℕ) (k n : ℕ) → n < 10 ^ k → ((j : ℕ) → j < k
 unfolding digits_of digits_at2 count_at2
 read_digits s zero n l h = (refl, omega (arith, pow-zero 10))
 read_digits s (suc k) n l h =
-    let size : length (digits_of k (n / 10)) ≡ k = length_digits k (n / 10) in
-    let last : get_or s (2 + k) 0 ≡ 48 + n % 10 =
-    h k (omega arith) ∙ get_or_at (digits_of k (n / 10)) (48 + n % 10) [] 0 k size in
-    let less : (digits_at2 s k ≡ true) × (count_at2 s k ≡ n / 10) =
-    read_digits s k (n / 10) (omega (arith, pow-suc 10 k))
-    (λ j m. h j (omega arith) ∙ get_or-append (digits_of k (n / 10)) ((48 + n % 10) ∷ []) 0 j (omega arith)) in (
-      rw (less.0, last) (digit_yes (48 + n % 10) (omega arith) (omega arith)),
-      rw (less.1, last) (omega arith),
-    )
+    let size = length_digits k (n / 10) in
+    let last : get_or s (2 + k) 0 ≡ 48 + n % 10 = h k (omega arith) ∙ get_or_at (digits_of k (n / 10)) (48 + n % 10) [] 0 k size in
+    let less = read_digits s k (n / 10) (omega (arith, pow-suc 10 k)) (λ j m. grind (arith, common_steps, h j)) in
+    (rw (less.0, last) (digit_yes (48 + n % 10) (omega arith) (omega arith)), rw (less.1, last) (omega arith))
 
 header_size : (n : ℕ) → length (header_of n) ≡ 2 + width_of n
 unfolding header_length
@@ -78,9 +63,7 @@ module _ (p : List ℕ) (short : length p ≤ longest) where
 
   digits_there : (j : ℕ) → j < width_of (length p) → get_or (block_of p) (2 + j) 0 ≡ get_or (digits_of (width_of (length p)) (length p)) j 0
   unfolding block_of header_of
-  digits_there j l =
-      let two : 2 + j ≡ suc (suc j) = omega arith in
-      rw two (get_or-append (digits_of (width_of (length p)) (length p)) p 0 j (omega (arith, length_digits (width_of (length p)) (length p))))
+  digits_there j l = grind (arith, common_steps, length_digits (width_of (length p)) (length p))
 
   read : (digits_at2 (block_of p) (width_of (length p)) ≡ true) × (count_at2 (block_of p) (width_of (length p)) ≡ length p)
   read = read_digits (block_of p) (width_of (length p)) (length p) w.fits digits_there

@@ -1,9 +1,9 @@
 -- The two forms of a block, as document 01 describes them and whatever opens it: s is a block, p the payload that it marks; and what
 -- it means that opening hands a payload back.
 use Rattle.std.specs.Prelude.{ℕ, ◌<◌, ◌≡◌, List, [], ◌∷◌, ◌++◌, length, get_or, drop}
-use Rattle.units.specs.Refusals.{success}
+use Rattle.units.specs.Refusals.{success, status_of}
 use Rattle.opening.specs.Header.{OpenHeader, Counts}
-use Rattle.opening.specs.Opening.{opening_of, opening_refusal, payload_of}
+use Rattle.opening.specs.Opening.{opening_of, payload_of}
 
 -- Definite: a header that counts the bytes of the payload, from index `start` on, then the payload and nothing more.
 pub record DefiniteForm (s p : List ℕ) : Type 0 where
@@ -24,5 +24,5 @@ pub data Block (s p : List ℕ) : Type 0 where
 
 -- Opening s succeeds, and hands back p.
 pub record HandsBack (s p : List ℕ) : Type 0 where
-  pub succeeds : opening_refusal (opening_of s) ≡ success
+  pub succeeds : status_of (opening_of s) ≡ success
   pub payload : payload_of s ≡ p

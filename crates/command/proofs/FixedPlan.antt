@@ -15,16 +15,16 @@ use Rattle.plans.specs.Tables.{pick, rank_in, table_of}
 use Rattle.plans.specs.Rows.{option}
 use Rattle.plans.proofs.Ways.{faults, plan_of_faults}
 use Rattle.plans.proofs.Rows.{by_computing}
+use Rattle.std.specs.Prelude.{Result, Ok}
+use Rattle.units.specs.declared.Bytes.{Bytes}
 use Rattle.units.specs.declared.refusals.Refusal.{Refusal}
 use Rattle.opening.specs.Header.{is_digit, digits_at2, count_at2, counting, counted_in, header_in}
 use Rattle.opening.specs.Opening.{from, counted_of, opening_by, opening_of, payload_of}
 use Rattle.framing.specs.Framing.{width_of, digits_of, header_of, block_of, header_length, block_length}
 use Rattle.tables.specs.Payload.{signals_in, channels_in, ranks_in, pairs_in, size_in, entry_bit, entry_in, entries_to, entries_in, payload_length, fill_in, table_in}
-use Rattle.table.specs.declared.Checked.{Checked}
-use Rattle.table.specs.Checking.{outsized, strays, sinks, judged_alone, go_on, judged, checked_of}
+use Rattle.table.specs.Checking.{outsized, strays, sinks, judged_alone, judged, checked_of}
 use Rattle.answer.specs.Answer.{row, payload_fields, channel_for, rank_for, answer_fields, answer_of}
 use Rattle.work.specs.Work.{NUMBERS}
-use Rattle.command.specs.declared.Reply.{Reply}
 use Rattle.command.specs.Handling.{reply_length, Handles}
 use Rattle.command.specs.Tightness.{listing_only}
 use Rattle.command.proofs.Deciding.{accepted, room}
@@ -41,7 +41,7 @@ elsewhere c q h = rw (ne_eqb c (q 0) (λ e. h (sym e))) (omega arith)
 -- counts are (1) and byte 6 of the answer, the first of the places, is c.
 record Computed (c : ℕ) : Type 0 where
   opened : opening_of (listing_only c) ≡ from 3 7
-  sound : checked_of (payload_of (listing_only c)) ≡ Checked.Accepted (size_in (payload_of (listing_only c)))
+  sound : checked_of (payload_of (listing_only c)) ≡ Ok (size_in (payload_of (listing_only c)))
   size : reply_length (size_in (payload_of (listing_only c))) ≡ 8
   table : table_in (payload_of (listing_only c)) ≡ listing c
   plan : faults (listing c) (λ s. c) ≡ 0
@@ -49,7 +49,7 @@ record Computed (c : ℕ) : Type 0 where
   told : (rest : List ℕ) → get_or (block_of (answer_of (listing c) (λ s. c)) ++ rest) 6 0 ≡ c
 
 unfoldable computing : Unit {0}
-unfolding opening_of opening_by header_in counted_in counting is_digit counted_of digits_at2 count_at2 from payload_of bit_at number field_at signals_in channels_in ranks_in pairs_in entry_bit entry_in entries_to entries_in payload_length fill_in table_in size_in outsized strays sinks judged_alone go_on judged checked_of reply_length block_length header_length width_of digits_of header_of block_of answer_of answer_fields payload_fields row channel_for rank_for packed gathered all_bits bits_of bits_in by_computing
+unfolding opening_of opening_by header_in counted_in counting is_digit counted_of digits_at2 count_at2 from payload_of bit_at number field_at signals_in channels_in ranks_in pairs_in entry_bit entry_in entries_to entries_in payload_length fill_in table_in size_in outsized strays sinks judged_alone judged checked_of reply_length block_length header_length width_of digits_of header_of block_of answer_of answer_fields payload_fields row channel_for rank_for packed gathered all_bits bits_of bits_in by_computing
 computing = tt
 
 lists_0 : Computed 0
@@ -77,15 +77,15 @@ module _ {c : ℕ} (k : Computed c) where
           (best.unbeaten (λ s. c) (plan_of_faults (listing c) (λ s. c) k.plan)
           (record { at = 0; inside = omega arith; before = λ j l. absurd (not-suc-le-zero l); less = omega (arith, elsewhere c q h, k.count) }))
 
-  placed_there : {area work : List ℕ} {r : Reply} {a w : List ℕ} → 8 ≤ length area → NUMBERS ≤ length work
+  placed_there : {area work : List ℕ} {r : Result Bytes Refusal} {a w : List ℕ} → 8 ≤ length area → NUMBERS ≤ length work
       → Handles (listing_only c) area work r a w → get_or a 6 0 ≡ c
   unfolding from
   placed_there {area} {work} {r} long enough f =
       let z = size_in (payload_of (listing_only c)) in
       let free =
-      accepted (listing_only c) (length area) (length work) k.opened k.sound
+      accepted (listing_only c) (length area) (length work) k.opened refl k.sound refl
       ∙ room (reply_length z) (length area) (length work) (omega (arith, k.size)) enough in
-      let done = (f.answered (ap (λ (v : Refusal). v.number) free)).written in
+      let done = (f.answered _ free).written in
       let plan = done.to.plan in
       let later = drop (reply_length z) area in
       ap (λ l. get_or l 6 0) done.bytes
@@ -95,7 +95,7 @@ module _ {c : ℕ} (k : Computed c) where
       ∙ k.told later)
 
 -- The two answers differ in the first byte of their places.
-pub fixed_plan_falls_short : (area work : List ℕ) → 8 ≤ length area → NUMBERS ≤ length work → (r r' : Reply) (a a' w w' : List ℕ)
+pub fixed_plan_falls_short : (area work : List ℕ) → 8 ≤ length area → NUMBERS ≤ length work → (r r' : Result Bytes Refusal) (a a' w w' : List ℕ)
     → Handles (listing_only 0) area work r a w → Handles (listing_only 1) area work r' a' w' → get_or a 6 0 ≡ get_or a' 6 0 → ⊥
 fixed_plan_falls_short area work long enough r r' a a' w w' f f' same =
     omega (arith, placed_there lists_0 long enough f, placed_there lists_1 long enough f')

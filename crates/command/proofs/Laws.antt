@@ -6,7 +6,8 @@ use mathlib.Core.Path.{◌≡◌, ap, sym, ◌∙◌}
 use mathlib.Core.List.{List}
 use lib.ListN.{length, take, drop}
 use lib.Seq.{take_at}
-use Rattle.units.specs.declared.refusals.Refusal.{Refusal}
+use Rattle.std.specs.Prelude.{Ok}
+use Rattle.units.specs.declared.Bytes.{Bytes}
 use Rattle.plans.specs.Order.{Same}
 use Rattle.plans.specs.Tables.{Entry}
 use Rattle.plans.proofs.Laws.{OneMoreCounts}
@@ -17,7 +18,6 @@ use Rattle.tables.specs.Payload.{signals_in, channels_in, ranks_in, size_in}
 use Rattle.tables.specs.Sound.{Sound}
 use Rattle.tables.specs.Making.{NewList, CutOf, BesideOf, MoreOf}
 use Rattle.tables.proofs.Making.{cut_accepted, beside_accepted, more_accepted}
-use Rattle.command.specs.declared.Reply.{Reply}
 use Rattle.command.specs.Answers.{count_in, AnswerTo}
 use Rattle.command.specs.Handling.{reply_length, Answered, Handles}
 use Rattle.command.proofs.Answers.{block_size, answer_short, counts_best}
@@ -34,13 +34,12 @@ answered_payload {p} {area} {work} {area'} {work'} {n} sound done =
     ∙ (framed_opens a (answer_short done.written.to sound)).payload in
     rw opened done.written.to
 
--- A whole command with number 0: its payload was accepted, and what it wrote opens to an answer.
-pub handled_answer : (block area work : List ℕ) (r : Reply) (a w : List ℕ) → Handles block area work r a w → r.refusal.number ≡ 0
-    → Sound (payload_of block) × AnswerTo (payload_of block) (payload_of (take r.length a))
-handled_answer block area work r a w f e =
-    let success = ap (λ (v : Refusal). v.number) (sym f.says) ∙ e in
-    let sound : Sound (payload_of block) = answered_sound block (length area) (length work) success in
-    (sound, answered_payload sound (f.answered success))
+-- A whole command that is answered with n bytes: its payload was accepted, and what it wrote opens to an answer.
+pub handled_answer : (block area work : List ℕ) (n : Bytes) (a w : List ℕ) → Handles block area work (Ok n) a w
+    → Sound (payload_of block) × AnswerTo (payload_of block) (payload_of (take n.0 a))
+handled_answer block area work n a w f =
+    let sound : Sound (payload_of block) = answered_sound block (length area) (length work) (sym f.says) in
+    (sound, answered_payload sound (f.answered n (sym f.says)))
 
 -- The counts in the answer to a table cut at rank k are the first k counts in the answer to the table.
 pub cut_in_answers : (k : ℕ) {p q a b : List ℕ} → k ≤ ranks_in p → Sound p → CutOf k p q → Sound q → AnswerTo p a → AnswerTo q b

@@ -4,7 +4,7 @@ use Prim.Native.Nat.{ℕ, ◌+◌, ◌-◌, ◌≤◌}
 use mathlib.Core.Path.{◌≡◌, refl, ap, sym, ◌∙◌}
 use mathlib.Core.List.{List, ◌++◌}
 use native.Mathlib.Omega.{arith}
-use lib.ListN.{length, drop}
+use lib.ListN.{length, drop, length-append}
 use borrow.Author.Tests.{lt-ltb, le-ltb}
 use borrow.Rule.Slice.PartMut.{mid_of, put_mid}
 use Rattle.units.specs.declared.Size.{Size}
@@ -12,8 +12,8 @@ use Rattle.units.specs.Limits.{Limits}
 use Rattle.plans.specs.Plan.{Table, Places, Plan}
 use Rattle.plans.specs.Tables.{pick}
 use Rattle.plans.proofs.Sums.{by_under}
-use Rattle.framing.specs.Framing.{longest, block_length, block_of, Headable, Heads}
-use Rattle.framing.proofs.Framed.{header_within, block_behind}
+use Rattle.framing.specs.Framing.{longest, header_of, header_length, block_length, block_of, Headable, Heads}
+use Rattle.framing.proofs.Framed.{length_header, header_within, block_behind}
 use Rattle.tables.specs.Payload.{size_in}
 use Rattle.tables.specs.Sound.{Sound}
 use Rattle.work.specs.Input.{Input}
@@ -53,6 +53,11 @@ tells {T} {p} {counts} {places} r =
           (λ h one. rw (lt-ltb (p s) T.channels h) (r.placed s l h))
           (λ h nought. rw (le-ltb (p s) T.channels h) (r.unplaced s l h));
     }
+
+-- A header that is in place ends inside its area.
+pub header_inside : {m r : ℕ} {area after : List ℕ} → Heads m area r after → r ≤ length after
+header_inside {m} {area = area} H =
+    omega (arith, H.answer, ap length H.bytes ∙ length-append (header_of m) (drop (header_length m) area), length_header m)
 
 module _ {p : List ℕ} {z : Size} (sound : Sound p) (is_size : z ≡ size_in p) where
   pub limits : Limits z
@@ -116,6 +121,6 @@ module _ {p : List ℕ} {z : Size} (sound : Sound p) (is_size : z ≡ size_in p)
             answer = bytes;
             to = D.to;
             bytes =
-                block_behind bytes area H (counts ∙ sym long) fits last (e ∙ rw (sym long) refl)
+                block_behind bytes area H (counts ∙ sym long) last (e ∙ rw (sym long) refl)
                 ∙ ap (λ n. block_of bytes ++ drop n area) (ap block_length long ∙ ap reply_length is_size);
           }

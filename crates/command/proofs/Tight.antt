@@ -5,14 +5,16 @@
 use Prim.Native.Nat.{ℕ, ◌+◌, ◌≤◌, ◌<◌}
 use mathlib.Core.Path.{◌≡◌, refl, ap, sym, ◌∙◌}
 use mathlib.Core.List.{List, [], ◌∷◌, ◌++◌}
-use native.Mathlib.Decide.{ℕ_discrete}
 use native.Mathlib.Omega.{arith}
 use lib.ListN.{length, get_or, take, drop, length-append, length-drop}
 use lib.Seq.{drop_at, take-append-le, take-append-add}
+use Rattle.std.specs.Prelude.{Result, Ok, Err}
+use Rattle.units.specs.declared.Bytes.{Bytes}
+use Rattle.units.specs.declared.Size.{Size}
 use Rattle.units.specs.declared.refusals.Refusal.{Refusal}
-use Rattle.opening.specs.declared.Opening.{Opening}
-use Rattle.opening.specs.Opening.{opening_of, opening_refusal, payload_of}
-use Rattle.opening.proofs.Ending.{opening_refused}
+use Rattle.units.specs.Refusals.{status_of}
+use Rattle.opening.specs.declared.headers.Part.{Part}
+use Rattle.opening.specs.Opening.{opening_of, payload_of}
 use Rattle.framing.specs.Framing.{header_of, block_of, block_length}
 use Rattle.framing.proofs.Framed.{length_header}
 use Rattle.block.specs.Forms.{Block}
@@ -20,11 +22,9 @@ use Rattle.block.specs.Forms.Block.{definite, open_ended}
 use Rattle.block.proofs.Forms.{opened_form}
 use Rattle.tables.specs.Payload.{signals_in, ranks_in, size_in, payload_length}
 use Rattle.tables.specs.Sound.{Sound}
-use Rattle.table.specs.declared.Checked.{Checked}
 use Rattle.table.specs.Checking.{checked_of}
-use Rattle.table.proofs.Acceptance.{accepted_sound, checking_refused}
+use Rattle.table.proofs.Acceptance.{no_refusal, accepted_sound}
 use Rattle.answer.specs.Answer.{answer_length}
-use Rattle.command.specs.declared.Reply.{Reply}
 use Rattle.command.specs.Answers.{AnswerTo}
 use Rattle.command.specs.Handling.{reply_length, after_checking, after_opening, verdict_of, Written, Answered, Refused, Handles}
 use Rattle.command.specs.Tightness.{places_start, SameReply}
@@ -46,42 +46,35 @@ module _ {p a : List ℕ} (A : AnswerTo p a) (rest : List ℕ) where
 
 -- Two replies to one command
 
-module _ {p area work : List ℕ} {r r' : Reply} {a a' w w' : List ℕ} (says : r.refusal ≡ r'.refusal) where
-  same_refused : (r.refusal.number ≡ 0 → ⊥) → Refused area work r.length a w → Refused area work r'.length a' w' → SameReply p r a w r' a' w'
-  same_refused wrong f f' =
+module _ {p area work : List ℕ} {r r' : Result Bytes Refusal} {a a' w w' : List ℕ} (says : r ≡ r') where
+  same_refused : {e : Refusal} → r ≡ Err e → Refused area work a w → Refused area work a' w' → SameReply p r a w r' a' w'
+  same_refused refusal f f' =
       let same : a ≡ a' = f.untouched ∙ sym f'.untouched in
       record {
-        refusal = says;
-        long = f.no_length ∙ sym f'.no_length;
+        reply = says;
         work = f.work_untouched ∙ sym f'.work_untouched;
         size = ap length same;
-        refused_bytes = λ h. same;
-        front = λ e. absurd (wrong e);
-        behind = ap (drop r.length) same;
+        refused_bytes = λ e told. same;
+        front = λ n told. no_refusal (sym refusal ∙ told);
+        behind = λ n told. no_refusal (sym refusal ∙ told);
       }
 
-  same_answered : r.refusal.number ≡ 0 → Answered p area work r.length a w → Answered p area work r'.length a' w'
-      → SameReply p r a w r' a' w'
-  same_answered success f f' =
+  same_answered : {b : Bytes} → r ≡ Ok b → Answered p area work b.0 a w → Answered p area work b.0 a' w' → SameReply p r a w r' a' w'
+  same_answered {b} answer f f' =
       let later = drop (reply_length (size_in p)) area in
       record {
-        refusal = says;
-        long = f.long ∙ sym f'.long;
+        reply = says;
         work = f.zeroed ∙ sym f'.zeroed;
         size = sized f.written ∙ sym (sized f'.written);
-        refused_bytes = λ h. absurd (h success);
-        front = λ e.
+        refused_bytes = λ e told. no_refusal (sym told ∙ answer);
+        front = λ n told.
             rw (f.written.bytes, f'.written.bytes)
             (block_front f.written.to later
             ∙ rw (answers_front f.written.to f'.written.to) (sym (block_front f'.written.to later)));
-        behind =
-            rw (
-              f.written.bytes,
-              f'.written.bytes,
-              behind_block f.written.to later f.long,
-              behind_block f'.written.to later f.long,
-            )
-            refl;
+        behind = λ n told.
+            let same : b ≡ n = cc in
+            let long : n.0 ≡ reply_length (size_in p) = rw same at f.long in
+            rw (f.written.bytes, f'.written.bytes, behind_block f.written.to later long, behind_block f'.written.to later long) refl;
       }
     where
       sized : {b : List ℕ} → Written p area b → length b ≡ reply_length (size_in p) + length (drop (reply_length (size_in p)) area)
@@ -90,45 +83,39 @@ module _ {p area work : List ℕ} {r r' : Reply} {a a' w w' : List ℕ} (says : 
           ∙ length-append (block_of g.answer) (drop (reply_length (size_in p)) area)
           ∙ ap (λ k. k + length (drop (reply_length (size_in p)) area)) (block_size g.to)
 
-pub handle_tight : (block area work : List ℕ) (r r' : Reply) (a a' w w' : List ℕ) → Handles block area work r a w → Handles block area work r' a' w'
+pub handle_tight : (block area work : List ℕ) (r r' : Result Bytes Refusal) (a a' w w' : List ℕ) → Handles block area work r a w → Handles block area work r' a' w'
     → SameReply (payload_of block) r a w r' a' w'
-handle_tight block area work r r' a a' w w' f f' = pick (ℕ_discrete verdict.number 0)
+handle_tight block area work r r' a a' w w' f f' = pick (verdict_of block (length area) (length work)) refl
   where
-    verdict : Refusal
-    verdict = verdict_of block (length area) (length work)
-
-    says : r.refusal ≡ r'.refusal
+    says : r ≡ r'
     says = f.says ∙ sym f'.says
 
-    number : r.refusal.number ≡ verdict.number
-    number = ap (λ (v : Refusal). v.number) f.says
-
-    pick : Dec (verdict.number ≡ 0) → SameReply (payload_of block) r a w r' a' w'
-    pick (yes e) = same_answered says (number ∙ e) (f.answered e) (f'.answered e)
-    pick (no h) = same_refused says (λ e. h (sym number ∙ e)) (f.refused h) (f'.refused h)
+    pick : (v : Result Bytes Refusal) → verdict_of block (length area) (length work) ≡ v → SameReply (payload_of block) r a w r' a' w'
+    pick (Err e) verdict = same_refused says (f.says ∙ verdict) (f.refused e verdict) (f'.refused e verdict)
+    pick (Ok n) verdict = same_answered says (f.says ∙ verdict) (f.answered n verdict) (f'.answered n verdict)
 
 -- Blocks that are answered
 
-module _ (block : List ℕ) (m k : ℕ) (success : (verdict_of block m k).number ≡ 0) where
-  opens : (opening_refusal (opening_of block)).number ≡ 0
+module _ (block : List ℕ) (m k : ℕ) {n : Bytes} (success : verdict_of block m k ≡ Ok n) where
+  opens : (status_of (opening_of block)).number ≡ 0
   unfolding verdict_of after_opening
-  opens = go (opening_of block) refl success
+  opens = go (opening_of block) success
     where
-      go : (o : Opening) → opening_of block ≡ o → (after_opening o (payload_of block) m k).number ≡ 0 → (opening_refusal o).number ≡ 0
-      go (Opening.Refused r) e z = z
-      go (Opening.Payload start n) e z = refl
+      go : (o : Result Part Refusal) → after_opening o (payload_of block) m k ≡ Ok n → (status_of o).number ≡ 0
+      go (Err r) told = no_refusal told
+      go (Ok part) told = refl
 
   pub answered_sound : Sound (payload_of block)
   unfolding verdict_of after_opening after_checking
-  answered_sound = go (opening_of block) refl success
+  answered_sound = go (opening_of block) success
     where
-      checked : (start : ℕ) (f : Checked) → checked_of (payload_of block) ≡ f → (after_checking start f m k).number ≡ 0 → Sound (payload_of block)
-      checked start (Checked.Refused r) e z = absurd (omega (arith, z, (checking_refused (payload_of block) e).0))
-      checked start (Checked.Accepted s) e z = accepted_sound (payload_of block) e
+      checked : (start : ℕ) (f : Result Size Refusal) → checked_of (payload_of block) ≡ f → after_checking start f m k ≡ Ok n → Sound (payload_of block)
+      checked start (Err r) found told = no_refusal told
+      checked start (Ok z) found told = accepted_sound (payload_of block) found
 
-      go : (o : Opening) → opening_of block ≡ o → (after_opening o (payload_of block) m k).number ≡ 0 → Sound (payload_of block)
-      go (Opening.Refused r) e z = absurd (omega (arith, z, (opening_refused block e).0))
-      go (Opening.Payload start n) e z = checked start (checked_of (payload_of block)) refl z
+      go : (o : Result Part Refusal) → after_opening o (payload_of block) m k ≡ Ok n → Sound (payload_of block)
+      go (Err r) told = no_refusal told
+      go (Ok part) told = checked part.start (checked_of (payload_of block)) refl told
 
   short_payload : length (payload_of block) ≤ 7504
   unfolding payload_length size_in
@@ -144,11 +131,11 @@ module _ (block : List ℕ) (m k : ℕ) (success : (verdict_of block m k).number
       go (open_ended f) =
           omega (arith, short_payload, sym (length-drop 2 block) ∙ ap length f.rest ∙ length-append (payload_of block) (10 ∷ []))
 
-module _ (block area work : List ℕ) (success : (verdict_of block (length area) (length work)).number ≡ 0) where
-  pub refuses_all_falls_short : (r : Reply) → (r.refusal.number ≡ 0 → ⊥) → (a w : List ℕ) → Handles block area work r a w → ⊥
-  refuses_all_falls_short r refusal a w f = refusal (ap (λ (v : Refusal). v.number) f.says ∙ success)
+module _ (block area work : List ℕ) {n : Bytes} (success : verdict_of block (length area) (length work) ≡ Ok n) where
+  pub refuses_all_falls_short : (e : Refusal) (a w : List ℕ) → Handles block area work (Err e) a w → ⊥
+  refuses_all_falls_short e a w f = no_refusal (f.says ∙ success)
 
   -- an area that does not start with the answer's mark already
-  pub untouched_falls_short : (get_or area 0 0 ≡ 35 → ⊥) → (r : Reply) (w : List ℕ) → Handles block area work r area w → ⊥
+  pub untouched_falls_short : (get_or area 0 0 ≡ 35 → ⊥) → (r : Result Bytes Refusal) (w : List ℕ) → Handles block area work r area w → ⊥
   unfolding block_of header_of
-  untouched_falls_short unmarked r w f = unmarked (ap (λ l. get_or l 0 0) (f.answered success).written.bytes)
+  untouched_falls_short unmarked r w f = unmarked (ap (λ l. get_or l 0 0) (f.answered n success).written.bytes)

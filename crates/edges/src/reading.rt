@@ -1,132 +1,159 @@
-// Reading a case: behind the colon the step and its words.
-ghost use Rattle.std.specs.Prelude.{◌≤◌, ◌<◌, length};
+// Reading a case: a name, and behind the colon the step and its words.
+use crate::digits::Digits;
+use crate::words::{Words, letters, number, split_once};
+use std::alloc::{AllocFailed, Global};
+use std::fmt;
 
-use crate::filling::NONE;
-use crate::{filling, say, slices};
-use std::io;
+// The largest areas that may be lent, in bytes and in numbers.
+const MOST_AREA: usize = 8192;
 
-// The words `open`, `check`, `compare`, `frame` and `handle`.
-pub(crate) const OPEN: u64 = 0x6f70656e;
+const MOST_WORK: usize = 16385;
 
-pub(crate) const CHECK: u64 = 0x636865636b;
-
-pub(crate) const COMPARE: u64 = 0x636f6d70617265;
-
-pub(crate) const FRAME: u64 = 0x6672616d65;
-
-pub(crate) const HANDLE: u64 = 0x68616e646c65;
-
-// A space, `with`, `area=` and `work=`.
-const SPACE: u64 = 0x20;
-
-const WITH: u64 = 0x77697468;
-
-const AREA: u64 = 0x617265613d;
-
-const WORK: u64 = 0x776f726b3d;
-
-// The step's word; how many digits the bytes have, and how many of them stand before `with`; the sizes of the lent areas.
+// A step by its word.
 #[derive(Clone, Copy)]
-pub(crate) struct Case {
-    pub(crate) step: u64,
-    pub(crate) digits: usize,
-    pub(crate) split: usize,
-    pub(crate) area: usize,
-    pub(crate) work: usize,
+enum Step {
+    Open,
+    Check,
+    Compare,
+    Frame,
+    Handle,
 }
 
-// What may be said once only.
-fn once(old: usize, new: usize) -> usize {
-    if old == NONE { new } else { NONE + 1 }
+impl TryFrom<&[u8]> for Step {
+    type Error = Fault;
+
+    fn try_from(word: &[u8]) -> Result<Step, Fault> {
+        match letters(word) {
+            b"open" => Ok(Step::Open),
+            b"check" => Ok(Step::Check),
+            b"compare" => Ok(Step::Compare),
+            b"frame" => Ok(Step::Frame),
+            b"handle" => Ok(Step::Handle),
+            _ => Err(Fault::NoCase),
+        }
+    }
 }
 
-// One word more, the step first; a space is none.
-fn word(word: &[u8], bytes: &mut [u8; 8192], mut case: Case) -> Case {
-    let size = filling::number(slices::after(word, 5));
-    let key = slices::key(slices::first(word, 5));
-    if case.step == 0 && key != SPACE {
-        case.step = slices::key(word);
-        return case;
-    }
-    match key {
-        SPACE => {}
-        WITH => case.split = once(case.split, case.digits),
-        AREA => case.area = once(case.area, size),
-        WORK => case.work = once(case.work, size),
-        _ => case.digits = filling::fill(bytes, case.digits, word),
-    }
-    case
+// What is wrong with a line; where several things are, the first of the first four.
+#[derive(Clone, Copy, Debug)]
+pub(crate) enum Fault {
+    NoCase,
+    NoBytes,
+    WrongSizes,
+    HalfByte,
+    OutOfMemory,
 }
 
-// Where the word that starts at an index ends: a text behind its second quotation mark, any other before the next space.
-fn word_end(line: &[u8], at: usize) -> usize
-    requires { at < length line.now }
-    ensures { (at < result) × (result ≤ length line.now) }
-{
-    if line[at] == b'"' {
-        return slices::past(line, slices::find(line, at + 1, b'"'));
+impl fmt::Display for Fault {
+    fn fmt<W: fmt::Write>(&self, f: &mut fmt::Formatter<W>) -> fmt::Result {
+        f.write_str(match self {
+            Fault::NoCase => "no name with a colon, or none of the five steps",
+            Fault::NoBytes => "a word that is no text, digits or run, or more than 8192 bytes",
+            Fault::WrongSizes =>
+                "with, area= or work= too much, missing or too large for this step",
+            Fault::HalfByte => "half a byte",
+            Fault::OutOfMemory => "out of memory",
+        })
     }
-    let end = slices::find(line, at, b' ');
-    if at < end { end } else { at + 1 }
 }
 
-// The case whose words stand behind a colon, and its bytes.
-pub(crate) fn words(line: &[u8], bytes: &mut [u8; 8192]) -> Case {
-    let mut case = Case {
-        step: 0,
-        digits: 0,
-        split: NONE,
-        area: NONE,
-        work: NONE,
-    };
-    let mut at = slices::past(line, 0);
-    while at < line.len() {
-        let end = word_end(line, at);
-        case = word(&line[at..end], bytes, case);
-        at = end;
+impl<T: Drop> From<AllocFailed<T>> for Fault {
+    fn from(_e: AllocFailed<T>) -> Fault {
+        Fault::OutOfMemory
     }
-    case
 }
 
-// Whether a number is there just where it is needed, and within its limit.
-fn fits(n: usize, most: usize, needed: bool) -> bool {
-    if needed { n <= most } else { n == NONE }
+// What may be said once only: what was said, if anything; a fault where more was.
+type Once<T> = Result<Option<T>, Fault>;
+
+// One word more: after what was said already it is a fault, whatever it says.
+fn once<T: Copy>(old: Once<T>, new: Option<T>) -> Once<T> {
+    match old? {
+        None => Ok(new),
+        Some(_) => Err(Fault::WrongSizes),
+    }
 }
 
-fn suits(case: Case) -> bool {
-    let step = case.step;
-    fits(case.split, 16384, step == COMPARE)
-        && fits(case.area, 8192, step == FRAME || step == HANDLE)
-        && fits(case.work, 16385, step == HANDLE)
+// What a step may need: how many bytes stand before `with`, and the sizes of the areas.
+#[derive(Clone, Copy)]
+struct Sizes {
+    split: Once<Result<usize, Fault>>,
+    area: Once<usize>,
+    work: Once<usize>,
 }
 
-// What is wrong with a case; 0 where nothing is.
-pub(crate) fn fault_of(case: Case) -> u8 {
-    let step = case.step;
-    match step {
-        OPEN | CHECK | COMPARE | FRAME | HANDLE => {}
-        _ => return 1,
-    }
-    if 16384 < case.digits {
-        return 2;
-    }
-    if suits(case) {
-        return (case.digits % 2) as u8 * 4 + (case.split % 2) as u8 * 4;
-    }
-    3
+// A step with what it needs beside the bytes.
+#[derive(Clone, Copy)]
+pub(crate) enum Trial {
+    Open,
+    Check,
+    Compare { split: usize },
+    Frame { area: usize },
+    Handle { area: usize, work: usize },
 }
 
-pub(crate) fn reason(rt: &impl Print, fault: u8) -> io::Result<()> {
-    match fault {
-        1 => say::words(rt, b": no name with a colon, or none of the five steps"),
-        2 => say::words(
-            rt,
-            b": a word that is no text, digits or run, or more than 8192 bytes",
-        ),
-        3 => say::words(
-            rt,
-            b": with, area= or work= too much, missing or too large for this step",
-        ),
-        _ => say::words(rt, b": half a byte"),
+impl Sizes {
+    // Each size is said just where it is needed, and within its limit.
+    fn suit(self, step: Step) -> Result<Trial, Fault> {
+        match (step, self.split?, self.area?, self.work?) {
+            (Step::Open, None, None, None) => Ok(Trial::Open),
+            (Step::Check, None, None, None) => Ok(Trial::Check),
+            (Step::Compare, Some(split), None, None) => Ok(Trial::Compare { split: split? }),
+            (Step::Frame, None, Some(area @ 0..=MOST_AREA), None) => Ok(Trial::Frame { area }),
+            (Step::Handle, None, Some(area @ 0..=MOST_AREA), Some(work @ 0..=MOST_WORK)) => Ok(
+                Trial::Handle { area, work },
+            ),
+            _ => Err(Fault::WrongSizes),
+        }
     }
+}
+
+#[derive(Drop)]
+pub(crate) struct Case<'a> {
+    pub(crate) name: &'a [u8],
+    pub(crate) trial: Trial,
+    pub(crate) bytes: Vec<u8>,
+}
+
+impl<'a> Case<'a> {
+    // The case that a line says.
+    pub(crate) fn read(alloc: Global, line: &'a [u8]) -> Result<Self, Fault> {
+        let (name, words) = split_once(line, b':').ok_or(Fault::NoCase)?;
+        let mut words = Words(words);
+        let step = words
+            .find(|word| !matches!(letters(word), b"" | b" "))
+            .ok_or(Fault::NoCase)?;
+        let step = Step::try_from(step)?;
+        let mut digits = Digits::new(alloc);
+        let mut sizes = Sizes {
+            split: Ok(None),
+            area: Ok(None),
+            work: Ok(None),
+        };
+        for word in words {
+            read_word(word, &mut digits, &mut sizes)?;
+        }
+        let trial = sizes.suit(step)?;
+        let bytes = digits.into_bytes()?;
+        Ok(Case { name, trial, bytes })
+    }
+}
+
+// One word behind the step.
+fn read_word(word: &[u8], digits: &mut Digits, sizes: &mut Sizes) -> Result<(), Fault> {
+    if let Some(size) = word.strip_prefix(b"area=") {
+        sizes.area = once(sizes.area, number(size));
+    } else if let Some(size) = word.strip_prefix(b"work=") {
+        sizes.work = once(sizes.work, number(size));
+    } else {
+        match word {
+            b" " => {}
+            // By its first five bytes, of which a 0 is no letter.
+            b"with" | [0, b'w', b'i', b't', b'h', ..] => {
+                sizes.split = once(sizes.split, Some(digits.len()));
+            }
+            _ => digits.word(word)?,
+        }
+    }
+    Ok(())
 }

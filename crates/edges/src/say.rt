@@ -1,31 +1,72 @@
-// Saying what was seen: words, numbers, bytes in hexadecimal, and how many are as they should be.
-use std::io;
+// How what was seen is said: what a step answers, bytes in hexadecimal, and how many are as they should be.
+use graupenzelt::OpenReply;
+use std::fmt;
+use units::Status;
 
-pub(crate) fn words(rt: &impl Print, text: &[u8]) -> io::Result<()> {
-    rt.write_all(text)
-}
+// A number in document 01's table and its place.
+#[derive(Clone, Copy)]
+pub(crate) struct Outcome(pub(crate) Status);
 
-pub(crate) fn number(rt: &impl Print, text: &[u8], n: usize) -> io::Result<()> {
-    words(rt, text)?;
-    print!(rt; "{n}")
-}
-
-// How many, and of how many.
-pub(crate) fn right(rt: &impl Print, text: &[u8], seen: usize, all: usize) -> io::Result<()> {
-    number(rt, text, seen)?;
-    number(rt, b" of ", all)
-}
-
-fn hex(rt: &impl Print, b: u8) -> io::Result<()> {
-    print!(rt; "{b:02x}")
-}
-
-pub(crate) fn bytes(rt: &impl Print, text: &[u8], s: &[u8]) -> io::Result<()> {
-    words(rt, text)?;
-    let mut i = 0;
-    while i < s.len() {
-        hex(rt, s[i])?;
-        i += 1;
+impl fmt::Display for Outcome {
+    fn fmt<W: fmt::Write>(&self, f: &mut fmt::Formatter<W>) -> fmt::Result {
+        write!(f, "number {} place {}", self.0.number, self.0.place)
     }
-    Ok(())
+}
+
+// What opening answers.
+#[derive(Clone, Copy)]
+pub(crate) struct Opened(pub(crate) OpenReply);
+
+impl fmt::Display for Opened {
+    fn fmt<W: fmt::Write>(&self, f: &mut fmt::Formatter<W>) -> fmt::Result {
+        let outcome = Outcome(self.0.status);
+        write!(
+            f,
+            "{outcome} start {} length {}",
+            self.0.start, self.0.length
+        )
+    }
+}
+
+#[derive(Clone, Copy)]
+pub(crate) struct Hexadecimal<'a>(pub(crate) &'a [u8]);
+
+impl fmt::Display for Hexadecimal<'_> {
+    fn fmt<W: fmt::Write>(&self, f: &mut fmt::Formatter<W>) -> fmt::Result {
+        for b in self.0 {
+            write!(f, "{b:02x}")?;
+        }
+        Ok(())
+    }
+}
+
+// So many of so many.
+#[derive(Clone, Copy)]
+pub(crate) struct Share {
+    right: usize,
+    all: usize,
+}
+
+impl Share {
+    // How many of s are x.
+    pub(crate) fn of<T: PartialEq + Copy>(s: &[T], x: T) -> Self {
+        Share {
+            right: s.iter().filter(|&&y| y == x).count(),
+            all: s.len(),
+        }
+    }
+
+    // How many bytes of a stand in b at the same index.
+    pub(crate) fn same(a: &[u8], b: &[u8]) -> Self {
+        Share {
+            right: a.iter().zip(b).filter(|(x, y)| x == y).count(),
+            all: a.len(),
+        }
+    }
+}
+
+impl fmt::Display for Share {
+    fn fmt<W: fmt::Write>(&self, f: &mut fmt::Formatter<W>) -> fmt::Result {
+        write!(f, "{} of {}", self.right, self.all)
+    }
 }

@@ -1,162 +1,140 @@
 // Trying a step: what it answers, and what stands then in the lent areas, which are marked before.
-use crate::reading::Case;
-use crate::slices::{after, first};
-use crate::{reading, say, slices};
-use command::Reply;
-use graupenzelt::OpenReply;
+use crate::reading::{Case, Trial};
+use crate::say::{Hexadecimal, Opened, Outcome, Share};
+use graupenzelt::{OpenReply, Reply};
 use std::io;
-use units::Refusal;
+use units::Status;
 
 // What stands everywhere in the areas before: a byte that no ramp has, and a number.
 const BYTE: u8 = 253;
 
 const NUMBER: u16 = 42405;
 
-fn outcome(rt: &impl Print, refusal: Refusal) -> io::Result<()> {
-    say::number(rt, b" number ", refusal.number as usize)?;
-    say::number(rt, b" place ", refusal.place)
+// How many numbers of the work area an answer clears. The test has its own number here, so that it does not follow the library's.
+const CLEARED: usize = 16384;
+
+// Tries a case.
+pub(crate) fn run(rt: &(impl Print + AllocGlobal), case: &Case<'_>) -> io::Result<()> {
+    rt.write_all(case.name)?;
+    let bytes = case.bytes.as_slice();
+    match case.trial {
+        Trial::Open => open(rt, bytes)?,
+        Trial::Check => check(rt, bytes)?,
+        Trial::Compare { split } => {
+            // A split lies within the bytes: it was said before the last of them.
+            let (a, b) = bytes.split_at(split.min(bytes.len()));
+            compare(rt, a, b)?;
+        }
+        Trial::Frame { area } => frame(rt, bytes, area)?,
+        Trial::Handle { area, work } => handle(rt, bytes, area, work)?,
+    }
+    println!(rt)
 }
 
-fn opened(rt: &impl Print, seen: OpenReply) -> io::Result<()> {
-    outcome(rt, seen.refusal)?;
-    say::number(rt, b" start ", seen.start)?;
-    say::number(rt, b" length ", seen.length)
+// The payload that opening found in a block.
+fn payload_in(block: &[u8], seen: OpenReply) -> &[u8] {
+    let from_start = block.get(seen.start..).unwrap_or_default();
+    from_start.get(..seen.length).unwrap_or(from_start)
 }
 
 fn open(rt: &impl Print, block: &[u8]) -> io::Result<()> {
     let seen = graupenzelt::graupenzelt_open(block);
-    say::words(rt, b": open")?;
-    opened(rt, seen)?;
-    say::bytes(
-        rt,
-        b" payload ",
-        first(after(block, seen.start), seen.length),
-    )
+    let payload = Hexadecimal(payload_in(block, seen));
+    print!(rt; ": open {} payload {payload}", Opened(seen))
 }
 
 fn check(rt: &impl Print, payload: &[u8]) -> io::Result<()> {
     let seen = graupenzelt::graupenzelt_check(payload);
-    say::words(rt, b": check")?;
-    outcome(rt, seen.refusal)?;
-    say::number(rt, b" signals ", seen.signals as usize)?;
-    say::number(rt, b" channels ", seen.channels as usize)?;
-    say::number(rt, b" ranks ", seen.ranks as usize)?;
-    say::number(rt, b" pairs ", seen.pairs as usize)
-}
-
-fn order(rt: &impl Print, o: i32) -> io::Result<()> {
-    match o {
-        -1 => say::words(rt, b" order -1"),
-        0 => say::words(rt, b" order 0"),
-        1 => say::words(rt, b" order 1"),
-        _ => say::words(rt, b" order none of the three"),
-    }
+    print!(rt;
+        ": check {} signals {} channels {} ranks {} pairs {}",
+        Outcome(seen.status),
+        seen.signals,
+        seen.channels,
+        seen.ranks,
+        seen.pairs
+    )
 }
 
 fn compare(rt: &impl Print, a: &[u8], b: &[u8]) -> io::Result<()> {
     let seen = graupenzelt::graupenzelt_compare(a, b);
-    say::words(rt, b": compare")?;
-    outcome(rt, seen.refusal)?;
-    order(rt, seen.order)
+    print!(rt; ": compare {} order {}", Outcome(seen.status), seen.order)
 }
 
-// What a step that writes a block answers; true where it wrote one.
-fn replied(rt: &impl Print, seen: Reply) -> io::Result<bool> {
-    outcome(rt, seen.refusal)?;
-    say::number(rt, b" length ", seen.length)?;
-    Ok(seen.refusal.number == 0)
+// The block that a step wrote at the start of an area, and what stands behind it; none where it was refused.
+fn written(seen: Reply, area: &[u8]) -> Option<(&[u8], &[u8])> {
+    if seen.status == Status::success() {
+        area.split_at_checked(seen.length)
+    } else {
+        None
+    }
 }
 
-fn bytes_kept(rt: &impl Print, text: &[u8], area: &[u8]) -> io::Result<()> {
-    let before = [BYTE; 8192];
-    say::right(rt, text, slices::same(area, &before), area.len())
-}
-
-fn numbers_are(rt: &impl Print, x: u16, text: &[u8], s: &[u16]) -> io::Result<()> {
-    say::right(rt, text, slices::count(s, x), s.len())
-}
-
-fn payload_right(rt: &impl Print, payload: &[u8], seen: &[u8]) -> io::Result<()> {
-    say::right(
-        rt,
-        b", payload right ",
-        slices::same(payload, seen),
-        payload.len(),
-    )
+// Frames in an area of so many bytes.
+fn frame(rt: &(impl Print + AllocGlobal), payload: &[u8], bytes: usize) -> io::Result<()> {
+    let mut area = vec![in rt.alloc(); BYTE; bytes]?;
+    let seen = graupenzelt::graupenzelt_frame(payload, &mut area);
+    print!(rt; ": frame {} length {}", Outcome(seen.status), seen.length)?;
+    match written(seen, &area) {
+        Some((block, later)) => {
+            framed(rt, payload, block)?;
+            print!(rt; ", later bytes kept {}", Share::of(later, BYTE))
+        }
+        None => print!(rt; ", bytes kept {}", Share::of(&area, BYTE)),
+    }
 }
 
 // A framed block: what stands before the payload's bytes, and these; and both again when it is opened.
 fn framed(rt: &impl Print, payload: &[u8], block: &[u8]) -> io::Result<()> {
-    if payload.len() <= block.len() {
-        let header = block.len() - payload.len();
-        say::bytes(rt, b", header ", first(block, header))?;
-        payload_right(rt, payload, after(block, header))?;
+    if let Some(header) = block.len().checked_sub(payload.len()) {
+        let (header, seen) = block.split_at(header);
+        let right = Share::same(payload, seen);
+        print!(rt; ", header {}, payload right {right}", Hexadecimal(header))?;
     }
     let seen = graupenzelt::graupenzelt_open(block);
-    say::words(rt, b", opened")?;
-    opened(rt, seen)?;
-    payload_right(rt, payload, first(after(block, seen.start), seen.length))
+    let right = Share::same(payload, payload_in(block, seen));
+    print!(rt; ", opened {}, payload right {right}", Opened(seen))
 }
 
-fn frame(rt: &impl Print, payload: &[u8], area: &mut [u8]) -> io::Result<()> {
-    let seen = graupenzelt::graupenzelt_frame(payload, area);
-    say::words(rt, b": frame")?;
-    if replied(rt, seen)? {
-        framed(rt, payload, first(area, seen.length))?;
-        bytes_kept(rt, b", later bytes kept ", after(area, seen.length))
-    } else {
-        bytes_kept(rt, b", bytes kept ", area)
+// Handles with areas of so many bytes and numbers.
+fn handle(
+    rt: &(impl Print + AllocGlobal),
+    block: &[u8],
+    bytes: usize,
+    numbers: usize,
+) -> io::Result<()> {
+    let mut area = vec![in rt.alloc(); BYTE; bytes]?;
+    let mut work = vec![in rt.alloc(); NUMBER; numbers]?;
+    let seen = graupenzelt::graupenzelt_handle(block, &mut area, &mut work);
+    print!(rt; ": handle {} length {}", Outcome(seen.status), seen.length)?;
+    match written(seen, &area) {
+        Some((block, later)) => {
+            print!(rt;
+                ", block {}, later bytes kept {}",
+                Hexadecimal(block),
+                Share::of(later, BYTE)
+            )?;
+            cleared(rt, &work)
+        }
+        None => {
+            print!(rt;
+                ", bytes kept {}, numbers kept {}",
+                Share::of(&area, BYTE),
+                Share::of(&work, NUMBER)
+            )
+        }
     }
 }
 
 // The work area after an answer: the numbers that must be zero, and later ones.
 fn cleared(rt: &impl Print, work: &[u16]) -> io::Result<()> {
-    if 16384 <= work.len() {
-        numbers_are(rt, 0, b", numbers zero ", &work[0..16384])?;
-        numbers_are(rt, NUMBER, b", later numbers kept ", &work[16384..])?;
-    }
-    Ok(())
-}
-
-fn handle(rt: &impl Print, block: &[u8], area: &mut [u8], work: &mut [u16]) -> io::Result<()> {
-    let seen = graupenzelt::graupenzelt_handle(block, area, work);
-    say::words(rt, b": handle")?;
-    if replied(rt, seen)? {
-        say::bytes(rt, b", block ", first(area, seen.length))?;
-        bytes_kept(rt, b", later bytes kept ", after(area, seen.length))?;
-        cleared(rt, work)
-    } else {
-        bytes_kept(rt, b", bytes kept ", area)?;
-        numbers_are(rt, NUMBER, b", numbers kept ", work)
-    }
-}
-
-// Frames or handles with areas of so many bytes and numbers.
-fn lent(rt: &impl Print, case: Case, bytes: &[u8]) -> io::Result<()> {
-    let mut area = [BYTE; 8192];
-    let mut work = [NUMBER; 16385];
-    let room = case.area;
-    let numbers = case.work;
-    if room <= 8192 {
-        if numbers <= 16385 {
-            handle(rt, bytes, &mut area[0..room], &mut work[0..numbers])?;
-        } else {
-            frame(rt, bytes, &mut area[0..room])?;
+    match work.split_at_checked(CLEARED) {
+        Some((first, later)) => {
+            print!(rt;
+                ", numbers zero {}, later numbers kept {}",
+                Share::of(first, 0),
+                Share::of(later, NUMBER)
+            )
         }
-    }
-    Ok(())
-}
-
-// Tries a case without a fault.
-pub(crate) fn run(rt: &impl Print, name: &[u8], case: Case, bytes: &[u8; 8192]) -> io::Result<()> {
-    let bytes = first(bytes, case.digits / 2);
-    let split = case.split / 2;
-    let step = case.step;
-    say::words(rt, name)?;
-    match step {
-        reading::OPEN => open(rt, bytes),
-        reading::CHECK => check(rt, bytes),
-        reading::COMPARE => compare(rt, first(bytes, split), after(bytes, split)),
-        _ => lent(rt, case, bytes),
+        None => Ok(()),
     }
 }

@@ -3,12 +3,13 @@
 use Prim.Native.Nat.{ℕ, suc, ◌+◌, ◌/◌, ◌≤◌, ◌<◌}
 use mathlib.Core.Path.{◌≡◌, refl, sym, ap, ◌∙◌}
 use mathlib.Core.Logic.{◌⊎◌, inl, inr, ⊎_elim}
-use mathlib.Core.Bool.{Bool, false, true≢false}
+use mathlib.Core.Bool.{Bool, true, false, ◌||◌, true≢false}
 use mathlib.Core.List.{List}
 use native.Mathlib.Nat.{lt_of_not-le}
 use native.Mathlib.Decide.{ℕ_discrete, dec_lt}
 use native.Mathlib.Omega.{arith}
 use lib.ListN.{length}
+use Rattle.std.proofs.lemmas.Bool.{or_parts}
 use Rattle.plans.proofs.Sums.{same_yes}
 use Rattle.units.specs.declared.Size.{Size}
 use Rattle.work.specs.Work.{at, LINK, FIRST, START, END, CHANNEL, SHUT_SIGNAL, SHUT_CHANNEL, MIDDLE, WHOLE, signal_at, channel_at, next_at, rank_at, Unchanged}
@@ -18,7 +19,6 @@ use Rattle.work.proofs.Area.{unchanged_refl, unchanged_trans, unchanged_at}
 use Rattle.work.proofs.Input.{same_start, same_signal, same_channel, same_next, same_input, start_most}
 use Rattle.enter.specs.Entering.{Room, Entered, Quiet}
 use Rattle.enter.specs.Inside.{EnteredPair}
-use Rattle.enter.specs.Inside.EnteredPair.{joined, left_out}
 use Rattle.enter.proofs.Waiting.{same_waiting, waiting_from, waiting_first, waiting_next, waiting_last}
 use Rattle.enter.proofs.Joined.{Steps, joined_steps, left_out_steps}
 
@@ -74,23 +74,23 @@ module _ {z : Size} {r : ℕ} {v : List ℕ} (n : Input z v) where
           omega (arith, slot, start_most n (suc (signal_at v e)) (n.signal e inside), n.limits.few_pairs),
         )
 
-    step_of : {more : Bool} {u : List ℕ} → EnteredPair any more (signal_at w e) (channel_at w e) w u → Steps z (signal_at v e) (channel_at v e) w u
-    step_of o = rw (← same_signal t.input e few, ← same_channel t.input e few) (go o)
+    step_of : (did : Bool) {u : List ℕ} → EnteredPair did (signal_at w e) (channel_at w e) w u → Steps z (signal_at v e) (channel_at v e) w u
+    step_of did {u} o = rw (← same_signal t.input e few, ← same_channel t.input e few) (go did o)
       where
         free : at w END (signal_at w e) < at w START (suc (signal_at w e))
         free =
             rw (same_signal t.input e few)
             (omega (arith, slot, same_start t.input (suc (signal_at v e)) (omega (arith, n.signal e inside, n.limits.few_signals))))
 
-        go : {more : Bool} {u : List ℕ} → EnteredPair any more (signal_at w e) (channel_at w e) w u → Steps z (signal_at w e) (channel_at w e) w u
-        go (joined q j) =
+        go : (did : Bool) → EnteredPair did (signal_at w e) (channel_at w e) w u → Steps z (signal_at w e) (channel_at w e) w u
+        go true j =
             joined_steps (same_input t.input n) t.lists j ((same_input t.input n).signal e inside) free
             (record { entry = e; inside = inside; signal = refl; channel = refl })
-        go (left_out q o) = left_out_steps t.lists o
+        go false o = left_out_steps t.lists o
 
-    still_quiet : {more : Bool} {u : List ℕ} → EnteredPair any more (signal_at w e) (channel_at w e) w u → more ≡ false → Quiet z v u
-    still_quiet (joined q j) f = absurd (true≢false (sym q ∙ f))
-    still_quiet (left_out q o) f = rw o.same (t.quiet (sym q ∙ f))
+    still_quiet : (did : Bool) {u : List ℕ} → EnteredPair did (signal_at w e) (channel_at w e) w u → (any || did) ≡ false → Quiet z v u
+    still_quiet true j f = absurd (true≢false (or_parts any true f).1)
+    still_quiet false o f = rw o.same (t.quiet (or_parts any false f).0)
 
     module _ {more : Bool} {u : List ℕ} (step : Steps z (signal_at v e) (channel_at v e) w u) (quiet : more ≡ false → Quiet z v u) where
       input : Unchanged 0 MIDDLE u v
@@ -144,12 +144,12 @@ module _ {z : Size} {r : ℕ} {v : List ℕ} (n : Input z v) where
             quiet = quiet;
           }
 
-    module _ {more : Bool} {u : List ℕ} {x : ℕ} (o : EnteredPair any more (signal_at w e) (channel_at w e) w u) (read : x ≡ at u LINK e) where
+    module _ (did : Bool) (u : List ℕ) {x : ℕ} (o : EnteredPair did (signal_at w e) (channel_at w e) w u) (read : x ≡ at u LINK e) where
       pub entering_later : e < x / 16
-      entering_later = omega (arith, next_of {more = more} (step_of o) (still_quiet o) read, n.next_later e inside)
+      entering_later = omega (arith, next_of {more = any || did} (step_of did o) (still_quiet did o) read, n.next_later e inside)
 
-      pub entering_more : Entering z r (x / 16) more v u
-      entering_more = rw (next_of {more = more} (step_of o) (still_quiet o) read) (onward (step_of o) (still_quiet o))
+      pub entering_more : Entering z r (x / 16) (any || did) v u
+      entering_more = rw (next_of {more = any || did} (step_of did o) (still_quiet did o) read) (onward (step_of did o) (still_quiet did o))
 
   pub entering_done : {e : ℕ} {any : Bool} {w : List ℕ} → Entering z r e any v w → z.pairs.0 ≤ e → Entered z r v w
   entering_done {e} {any} {w} t past =

@@ -1,3 +1,3 @@
--- What preparing and entering promise (Entering), and their parts (Inside).
+-- What preparing and entering promise (Entering), and what becomes of one pair (Inside).
 pub mod Entering
 pub mod Inside

@@ -21,20 +21,22 @@ pub fn enter(w: &mut [u16], size: Size, rank: usize) -> bool
     requires { Input size w.old × Lists size w.old × Room size rank w.old × (1 ≤ rank) × (rank ≤ size.ranks) }
     ensures { Entered size rank w.old w.new × (result ≡ false → Quiet size w.old w.new) }
 {
+    let pairs = usize::from(size.pairs);
     let mut any = false;
+    // No index is counted: each entry names the next one of its rank, in the area that the turn writes.
     let mut e = get(w, FIRST, rank);
-    while e < size.pairs.0 as usize {
-        any = enter_pair(w, e, any);
+    while e < pairs {
+        any |= enter_pair(w, e);
         e = get(w, LINK, e) / 16;
     }
     any
 }
 
 // A pair joins its signal's list, unless an end of it is shut; one test of both flags, since neither can be foretold. Says
-// whether it, or any before it, did.
-fn enter_pair(w: &mut [u16], e: usize, any: bool) -> bool
+// whether it did.
+fn enter_pair(w: &mut [u16], e: usize) -> bool
     requires { (NUMBERS ≤ length w.old) × (e < most_pairs) × (signal_at w.old e < most_signals) × (at w.old END (signal_at w.old e) < most_pairs) }
-    ensures { EnteredPair any result (signal_at w.old e) (channel_at w.old e) w.old w.new }
+    ensures { EnteredPair result (signal_at w.old e) (channel_at w.old e) w.old w.new }
 {
     let pair = get(w, PAIR, e);
     let s = pair / 256;
@@ -46,5 +48,5 @@ fn enter_pair(w: &mut [u16], e: usize, any: bool) -> bool
         put(w, END, s, end + 1);
         return true;
     }
-    any
+    false
 }

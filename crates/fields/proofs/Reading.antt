@@ -8,11 +8,12 @@ use native.Mathlib.Omega.{arith}
 use lib.ListN.{get_or}
 use lib.Pow.{pow_pos, pow_mono, shl_exact}
 use lib.Bits.{bit_and, and_mask}
+use Rattle.std.proofs.Common.{Fits, w8}
 use Rattle.fields.specs.Fields.{field_at}
 use Rattle.fields.proofs.Bits.{field_left, field_right, field_byte, field_bytes}
 
 -- `1 << n` at 64 bits is a product cut to 64 bits, and nothing is cut off
-pub one_shifted : (n : ℕ) → n < 64 → (1 * 2 ^ n) % 2 ^ 64 ≡ 2 ^ n
+one_shifted : (n : ℕ) → n < 64 → (1 * 2 ^ n) % 2 ^ 64 ≡ 2 ^ n
 one_shifted n h = shl_exact {a = 1} 1 n 64 (omega arith) (omega arith) ∙ one-mul (2 ^ n)
 
 pub masked : (x n : ℕ) → n < 64 → bit_and x ((1 * 2 ^ n) % 2 ^ 64 - 1) ≡ x % 2 ^ n
@@ -26,17 +27,16 @@ pub low_fits : {r : ℕ} (x w : ℕ) → r ≡ x % 2 ^ w → w ≤ 32 → r < 2 
 low_fits x w e h = lt_of_lt_of_le (low_below x w e) (pow_mono h)
 
 module _ (s : List ℕ) where
-  pub five_joined : (i : ℕ) → ((k : ℕ) → get_or s k 0 < 256)
-      → (((get_or s i 0 * 256 + get_or s (i + 1) 0) * 256 + get_or s (i + 2) 0) * 256 + get_or s (i + 3) 0) * 256 + get_or s (i + 4) 0
-      ≡ field_at s (8 * i) 40
-  five_joined i small =
+  pub five_joined : (i : ℕ) → ((k : ℕ) → Fits w8 (get_or s k 0)) → field_at s (8 * i) 40
+      ≡ (((get_or s i 0 * 256 + get_or s (i + 1) 0) * 256 + get_or s (i + 2) 0) * 256 + get_or s (i + 3) 0) * 256 + get_or s (i + 4) 0
+  five_joined i bytes =
       omega (
         arith,
-        field_byte s i (small i),
-        field_bytes s i 1 (small (i + 1)),
-        field_bytes s i 2 (small (i + 2)),
-        field_bytes s i 3 (small (i + 3)),
-        field_bytes s i 4 (small (i + 4)),
+        field_byte s i (bytes i).fits,
+        field_bytes s i 1 (bytes (i + 1)).fits,
+        field_bytes s i 2 (bytes (i + 2)).fits,
+        field_bytes s i 3 (bytes (i + 3)).fits,
+        field_bytes s i 4 (bytes (i + 4)).fits,
       )
 
   -- The field at `at`, with `left` bits between the start of byte i and it, and `right` bits after it in the five bytes.

@@ -1,6 +1,6 @@
 -- Writing a field by whole bytes: replacing bits of one byte puts them (byte_put), two fields put side by side are one
 -- (puts_more), and what the loop over the bytes keeps (Writing). Leans on proofs/Bits and proofs/Reading.
-use Prim.Native.Nat.{ℕ, zero, suc, ◌+◌, ◌-◌, ◌*◌, ◌/◌, ◌%◌, ◌^◌, ◌≤◌, ◌<◌, min}
+use Prim.Native.Nat.{ℕ, ◌+◌, ◌-◌, ◌*◌, ◌/◌, ◌%◌, ◌^◌, ◌≤◌, ◌<◌, min}
 use mathlib.Core.Path.{◌≡◌, refl, sym, ◌∙◌}
 use mathlib.Core.List.{List}
 use native.Mathlib.Nat.{mod-eq_of_lt, div-eq_of_lt, add_assoc, lt_of_lt_of_le}
@@ -128,9 +128,9 @@ puts_more {s} {t} {z} {at} {u} {x} {n} p q =
 -- `room` bits from there to its end.
 pub record Writing (before : List ℕ) (at width value : ℕ) (now : List ℕ) (i room left : ℕ) : Type 0 where
   pub within : left ≤ width
-  pub some : 0 < room
   pub most : room ≤ 8
-  pub place : 0 < left → 8 * i + 8 + left ≡ at + width + room
+  pub place : left ≡ at + width - (8 * i + (8 - room))
+  pub next : 8 * i < at + width → 8 * i + (8 - room) ≤ at + width
   pub puts : Puts before at (width - left) (value / 2 ^ left) now
 
 pub writing_none : (s : List ℕ) (at width value : ℕ) → value < 2 ^ width
@@ -139,24 +139,24 @@ writing_none s at width value fits =
     let none : width - width ≡ 0 = omega arith in
     record {
       within = omega arith;
-      some = omega arith;
       most = omega arith;
-      place = λ l. omega arith;
+      place = omega arith;
+      next = λ l. omega arith;
       puts = rw (none, div-eq_of_lt fits) (puts_none s at);
     }
 
 -- One turn: n bits go into byte i, all that it has room for or all that are left, with `right` bits of the byte and `later`
 -- bits of the value to their right.
 pub writing_more : {s t : List ℕ} {at width value i room left : ℕ} (n right later bits x : ℕ) → Writing s at width value t i room left
-    → 0 < left → at + width ≤ 8 * length s → n ≡ min room left → n + right ≡ room → n + later ≡ left
+    → 8 * i < at + width → at + width ≤ 8 * length s → n ≡ min room left → n + right ≡ room → n + later ≡ left
     → ((k : ℕ) → get_or t k 0 < 256) → bits ≡ value / 2 ^ later % 2 ^ n → x < 256 → x ≡ byte_with (get_or t i 0) n right bits
     → Writing s at width value (set t i x) (i + 1) 8 (left - n)
 writing_more {s} {t} {at} {width} {value} {i} {room} {left} n right later bits x w more within least in-byte in-value bytes is-bits is_byte_lem new =
     record {
       within = omega arith;
-      some = omega arith;
       most = omega arith;
-      place = λ l. omega (arith, w.place more);
+      place = omega (arith, w.place);
+      next = λ l. omega arith;
       puts = rw (rest, ← longer, ← high_bits) (puts_more w.puts here);
     }
   where
@@ -173,17 +173,9 @@ writing_more {s} {t} {at} {width} {value} {i} {room} {left} n right later bits x
 
     here : Puts t (at + (width - left)) n bits (set t i x)
     here =
-        let start : at + (width - left) ≡ 8 * i + (8 - room) = omega (arith, w.place more) in
+        let start : at + (width - left) ≡ 8 * i + (8 - room) = omega (arith, w.place, w.next more) in
         rw start
-        (byte_put t i (8 - room) n right bits x (omega (arith, w.place more, w.puts.size)) bytes (omega arith)
+        (byte_put t i (8 - room) n right bits x (omega (arith, w.puts.size)) bytes (omega arith)
         (low_below (value / 2 ^ later) n is-bits)
         is_byte_lem
         new)
-
-pub writing_done : {s t : List ℕ} {at width value i room left : ℕ} → Writing s at width value t i room left → left ≤ 0
-    → Puts s at width value t
-writing_done {width = width} {value = value} {left = zero} w l =
-    let full : width - 0 ≡ width = omega arith in
-    let same : value / 1 ≡ value = omega arith in
-    rw (full, same) at w.puts
-writing_done {left = suc m} w l = absurd (omega arith)

@@ -1,6 +1,7 @@
 // Fields of up to 32 bits at any bit offset of a byte string, the most significant bit first: `read` gives one and `write`
 // puts one. Both go by whole bytes and never by single bits. They are internal to the box and no public steps, so where a
-// public step would refuse they have a `requires`. specs/Fields says what each gives.
+// public step would refuse they have a `requires`. specs/Fields says what each gives. A cast with `as` loses no bits here, by
+// proof; `try_from` would give a Result that cannot fail.
 #![tactic(auto)]
 
 ghost use Rattle.std.specs.Prelude.{◌≡◌, ◌+◌, ◌*◌, ◌%◌, ◌^◌, ◌≤◌, ◌<◌, min, length, get_or};
@@ -10,18 +11,19 @@ ghost use Rattle.fields.specs.Fields.{field_at, Puts, byte_with};
 fn byte_at(s: &[u8], i: usize) -> u8
     ensures { result ≡ get_or s.now i 0 }
 {
-    if i < s.len() { s[i] } else { 0 }
+    s.get(i).copied().unwrap_or(0)
 }
 
 // Five bytes as one number, the first the most significant.
 fn joined(a: u8, b: u8, c: u8, d: u8, e: u8) -> u64
     ensures { result ≡ (((a * 256 + b) * 256 + c) * 256 + d) * 256 + e }
 {
-    (((a as u64 * 256 + b as u64) * 256 + c as u64) * 256 + d as u64) * 256 + e as u64
+    u64::from_be_bytes([0, 0, 0, a, b, c, d, e])
 }
 
 // The five bytes from i on as one number. All but the last few places of a string have five bytes left, and are read
-// without a test of each.
+// without a test of each. A slice pattern over `get(i..i + 5)` is as fast and no plainer: it gives five references to copy.
+#[tactic(auto, using(crate::proofs::Reading::five_joined))]
 pub fn five_bytes(s: &[u8], i: usize) -> u64
     requires { i < 2 ^ 62 }
     ensures { result ≡ field_at s.now (8 * i) 40 }
@@ -39,6 +41,7 @@ pub fn five_bytes(s: &[u8], i: usize) -> u64
 }
 
 // The n low bits of x.
+#[tactic(auto, using(crate::proofs::Reading::masked))]
 fn low_bits(x: u64, n: usize) -> u64
     requires { n < 64 }
     ensures { result ≡ x % 2 ^ n }
@@ -61,32 +64,27 @@ fn put_in_byte(byte: u8, n: usize, right: usize, bits: u64) -> u8
     requires { (n + right ≤ 8) × (bits < 2 ^ n) }
     ensures { result ≡ byte_with byte n right bits }
 {
-    let old = byte as u64;
+    let old = u64::from(byte);
     let with_bits = (old >> (n + right) << n) + bits;
     ((with_bits << right) + low_bits(old, right)) as u8
 }
 
-fn smaller(a: usize, b: usize) -> usize
-    ensures { result ≡ min a b }
-{
-    if a < b { a } else { b }
-}
-
 // Writes the `width` low bits of the value from bit `at` on. Each turn fills what the field covers of one byte: `room` bits
-// are there from the next bit to be written to the byte's end.
+// are there from the next bit to be written to the byte's end, and `left` bits are still to be written. It goes by index: of a
+// walk over the elements of a lent part of `out` a proof does not know what was written.
 pub fn write(out: &mut [u8], at: usize, width: usize, value: u32)
     requires { (width ≤ 32) × (value < 2 ^ width) × (at + width ≤ 8 * length out.old) }
     ensures { Puts out.old at width value out.new }
 {
-    let mut i = at / 8;
+    let first = at / 8;
+    let covered = (at % 8 + width).div_ceil(8);
     let mut room = 8 - at % 8;
     let mut left = width;
-    while 0 < left {
-        let n = smaller(room, left);
+    for i in first..first + covered {
+        let n = room.min(left);
         left -= n;
-        let bits = low_bits(value as u64 >> left, n);
+        let bits = low_bits(u64::from(value) >> left, n);
         out[i] = put_in_byte(out[i], n, room - n, bits);
-        i += 1;
         room = 8;
     }
 }

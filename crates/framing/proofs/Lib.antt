@@ -1,4 +1,3 @@
--- A part of the lent area (Parts), a header written (Written), and a payload framed (Framed).
-pub mod Parts
+-- A header written (Written), and a payload framed (Framed).
 pub mod Written
 pub mod Framed

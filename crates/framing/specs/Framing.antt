@@ -1,10 +1,9 @@
 -- What framing a payload answers and leaves in the lent area, for every payload and every area (document 01, "Blocks",
 -- rows 6 and 10). Every length here counts bytes.
-use Rattle.std.specs.Prelude.{ℕ, zero, suc, ◌+◌, ◌/◌, ◌%◌, ◌≤◌, ◌≡◌, cond, List, [], ◌∷◌, ◌++◌, length, drop, ltb}
+use Rattle.std.specs.Prelude.{ℕ, zero, suc, ◌+◌, ◌/◌, ◌%◌, ◌≤◌, ◌≡◌, cond, List, [], ◌∷◌, ◌++◌, length, drop, ltb, Result, Ok, Err}
+use Rattle.units.specs.declared.Bytes.{Bytes}
 use Rattle.units.specs.declared.refusals.Refusal.{Refusal}
-use Rattle.units.specs.Refusals.{success, too_long, no_room}
-use Rattle.framing.specs.declared.Framing.{Framing}
-use Rattle.framing.specs.declared.Framing.TheVariants.{Refused, Framed}
+use Rattle.units.specs.declared.refusals.Refusal.TheVariants.{TooLong, NoRoom}
 
 -- the longest payload that framing takes
 abbrev pub longest : ℕ
@@ -35,26 +34,22 @@ unfoldable pub block_length : ℕ → ℕ
 block_length n = header_length n + n
 
 -- What framing a payload of n bytes into an area of m bytes answers.
-unfoldable pub framing_of : (n m : ℕ) → Framing
+unfoldable pub framing_of : (n m : ℕ) → Result Bytes Refusal
 framing_of n m =
-    cond (ltb longest n) (Refused too_long) (cond (ltb m (block_length n)) (Refused no_room) (Framed (record { 0 = block_length n })))
+    cond (ltb longest n) (Err TooLong) (cond (ltb m (block_length n)) (Err NoRoom) (Ok (record { 0 = block_length n })))
 
--- The number and place of an answer, and the length of the block that was written, 0 for a refusal.
-abbrev pub framing_refusal : Framing → Refusal
-framing_refusal (Refused r) = r
-framing_refusal (Framed n) = success
-
-abbrev pub framing_length : Framing → ℕ
-framing_length (Refused r) = 0
-framing_length (Framed n) = n.0
+-- The length of the block that was written, 0 for a refusal.
+abbrev pub framing_length : Result Bytes Refusal → ℕ
+framing_length (Err r) = 0
+framing_length (Ok n) = n.0
 
 -- What the area holds afterwards: on a refusal what it held; else the block at its start, and later bytes as they were.
-unfoldable pub area_after : Framing → (p area : List ℕ) → List ℕ
-area_after (Refused r) p area = area
-area_after (Framed n) p area = block_of p ++ drop n.0 area
+unfoldable pub area_after : Result Bytes Refusal → (p area : List ℕ) → List ℕ
+area_after (Err r) p area = area
+area_after (Ok n) p area = block_of p ++ drop n.0 area
 
 -- The promise of framing p into an area: the answer, and every byte of the area at exit.
-pub record Frames (p area : List ℕ) (r : Framing) (after : List ℕ) : Type 0 where
+pub record Frames (p area : List ℕ) (r : Result Bytes Refusal) (after : List ℕ) : Type 0 where
   pub answer : r ≡ framing_of (length p) (length area)
   pub bytes : after ≡ area_after r p area
 

@@ -2,7 +2,7 @@
 // specs/Framing says what is answered and written for every payload and every area.
 #![tactic(auto)]
 
-ghost use Rattle.std.specs.Prelude.{◌≡◌, ◌≤◌, ◌++◌, length, drop};
+ghost use Rattle.std.specs.Prelude.{◌≡◌, ◌≤◌, length};
 ghost use Rattle.framing.specs.Framing.{longest, width_of, digits_of, block_length, Headable, Heads, Frames};
 
 use units::{Bytes, Refusal};
@@ -10,54 +10,49 @@ use units::{Bytes, Refusal};
 // The longest payload that is framed.
 pub const LONGEST: usize = 7504;
 
-// What framing a payload comes to: a refusal, or how many bytes the block has.
-#[derive(Clone, Copy)]
-pub enum Framing {
-    Refused(Refusal),
-    Framed(Bytes),
-}
-
 // The fewest digits that write n, which has at most four.
+#[tactic(auto, unfolding(crate::specs::Framing::width_of))]
 fn width(n: usize) -> usize
     ensures { (result ≡ width_of n) × (result ≤ 4) }
 {
-    if n < 10 {
-        return 1;
+    match n {
+        ..=9 => 1,
+        ..=99 => 2,
+        ..=999 => 3,
+        _ => 4,
     }
-    if n < 100 {
-        return 2;
-    }
-    if n < 1000 { 3 } else { 4 }
 }
 
-// Writes the k last digits of n at the start of `out`, each straight to its position, from the last one up.
-fn put_digits(out: &mut [u8], k: usize, n: usize)
-    requires { k ≤ length out.old }
-    ensures { out.new ≡ digits_of k n ++ drop k out.old }
+// Fills `out` with the last digits of n, each straight to its position, from the last one up. The loop goes by index: of a reversed
+// walk over the elements a proof does not know what it has written.
+#[tactic(auto, using(crate::proofs::Written::digit_put, crate::proofs::Written::digits_done))]
+fn put_digits(out: &mut [u8], n: usize)
+    ensures { out.new ≡ digits_of (length out.old) n }
 {
     let mut left = n;
-    let mut i = k;
-    while 0 < i {
-        i -= 1;
-        out[i] = (48 + left % 10) as u8;
-        left = left / 10;
+    for i in (0..out.len()).rev() {
+        out[i] = b'0' + (left % 10) as u8;
+        left /= 10;
     }
 }
 
 // Writes the header that counts so many bytes at the area's start, and says how many bytes it has.
+#[tactic(auto, using(crate::proofs::Written::head_written), unfolding(crate::specs::Framing::header_length))]
 pub fn put_header(area: &mut [u8], length: Bytes) -> Bytes
     requires { Headable length.0 area.old }
     ensures { Heads length.0 area.old result.0 area.new }
 {
     let n = length.0;
-    let k = width(n);
+    let digits = width(n);
+    let end = 2 + digits;
     area[0] = b'#';
-    area[1] = (48 + k) as u8;
-    put_digits(&mut area[2..], k, n);
-    Bytes(2 + k)
+    area[1] = b'0' + digits as u8;
+    put_digits(&mut area[2..end], n);
+    Bytes(end)
 }
 
 // How many bytes the block of a payload of so many bytes has.
+#[tactic(auto, unfolding(crate::specs::Framing::block_length, crate::specs::Framing::header_length))]
 pub fn framed_length(length: Bytes) -> Bytes
     requires { length.0 ≤ longest }
     ensures { result.0 ≡ block_length length.0 }
@@ -66,28 +61,20 @@ pub fn framed_length(length: Bytes) -> Bytes
     Bytes(2 + width(n) + n)
 }
 
-// Copies `from` to the start of `to`; what stands behind it there stays.
-fn copy(from: &[u8], to: &mut [u8])
-    requires { length from.now ≤ length to.old }
-    ensures { to.new ≡ from.now ++ drop (length from.now) to.old }
-{
-    to[..from.len()].copy_from_slice(from);
-}
-
-// Frames a payload into the lent area (rows 6 and 10). The payload goes into the area's part from the header's end on.
-pub fn frame(payload: &[u8], area: &mut [u8]) -> Framing
+// Frames a payload into the lent area (rows 6 and 10), and says how many bytes the block has.
+#[tactic(auto, unfolding(crate::specs::Framing::framing_of, crate::specs::Framing::area_after, crate::specs::Framing::block_length))]
+pub fn frame(payload: &[u8], area: &mut [u8]) -> Result<Bytes, Refusal>
     ensures { Frames payload.now area.old result area.new }
 {
     let n = payload.len();
     if LONGEST < n {
-        return Framing::Refused(Refusal::too_long());
+        return Err(Refusal::TooLong);
     }
     let whole = framed_length(Bytes(n));
     if area.len() < whole.0 {
-        return Framing::Refused(Refusal::no_room());
+        return Err(Refusal::NoRoom);
     }
     let header = put_header(area, Bytes(n));
-    let at = header.0;
-    copy(payload, &mut area[at..]);
-    Framing::Framed(whole)
+    area[header.0..whole.0].copy_from_slice(payload);
+    Ok(whole)
 }

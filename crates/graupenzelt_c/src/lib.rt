@@ -1,14 +1,13 @@
-// The five functions for C. Each hands on to the function of its name in graupenzelt, and promises what that one does.
+// The five functions for C. Each hands on to the function of its name in graupenzelt, and promises what that one does: a crate is a
+// library for Rattle or an archive for C, not both, and C calls them by these names.
 #![tactic(auto)]
 
 ghost use Rattle.std.specs.Prelude.{◌≡◌};
 ghost use Rattle.opening.specs.Opening.{opening_of};
 ghost use Rattle.table.specs.Checking.{checked_of};
-ghost use Rattle.command.specs.Handling.{Handles};
-ghost use Rattle.graupenzelt.specs.Exports.{open_reply, check_reply, FramesInto, ComparesLines};
+ghost use Rattle.graupenzelt.specs.Exports.{open_reply, check_reply, FramesInto, ComparesLines, HandlesInto};
 
-use command::Reply;
-use graupenzelt::{CheckReply, CompareReply, OpenReply};
+use graupenzelt::{CheckReply, CompareReply, OpenReply, Reply};
 
 #[unsafe(no_mangle)]
 pub extern "C" fn graupenzelt_open(block: &[u8]) -> OpenReply
@@ -40,7 +39,7 @@ pub extern "C" fn graupenzelt_compare(a: &[u8], b: &[u8]) -> CompareReply
 
 #[unsafe(no_mangle)]
 pub extern "C" fn graupenzelt_handle(block: &[u8], area: &mut [u8], work: &mut [u16]) -> Reply
-    ensures { Handles block.now area.old work.old result area.new work.new }
+    ensures { HandlesInto block.now area.old work.old result area.new work.new }
 {
     graupenzelt::graupenzelt_handle(block, area, work)
 }

@@ -1,8 +1,8 @@
 -- Laws of flipping: what a turn of the recursion asks of the next (turn_asks), and what comes of it where another channel is
--- left empty (flipped_more) and where the root is reached (flipped_last). Laws of clearing: no marks are gone yet
--- (cleared_none), and one more (cleared_more). Leans on work's Area and State.
+-- left empty (flipped_more) and where the root is reached (flipped_last). Of clearing: one mark more is gone
+-- (cleared_more). Leans on work's Area and State.
 use Prim.Native.Nat.{ℕ, suc, ◌+◌, ◌-◌, ◌≤◌, ◌<◌}
-use mathlib.Core.Path.{◌≡◌, refl, ap, sym, ◌∙◌}
+use mathlib.Core.Path.{◌≡◌, ap, sym, ◌∙◌}
 use mathlib.Core.Logic.{⊎_elim, inl, inr}
 use mathlib.Core.List.{List}
 use native.Mathlib.Decide.{ℕ_discrete}
@@ -12,7 +12,7 @@ use Rattle.units.specs.Limits.{most_signals, most_channels}
 use Rattle.work.specs.Work.{at, none, CHANNEL, SIGNAL, SHUT_SIGNAL, FROM, QUEUE, MIDDLE, WHOLE, Unchanged, Put}
 use Rattle.work.specs.Input.{Input}
 use Rattle.work.specs.State.{InList, Lists, Keeps}
-use Rattle.work.proofs.Area.{put_other, put_below, put_above, unchanged_refl, unchanged_trans, unchanged_part, unchanged_at}
+use Rattle.work.proofs.Area.{put_other, put_below, put_above, unchanged_trans, unchanged_part, unchanged_at}
 use Rattle.work.proofs.Input.{same_input}
 use Rattle.work.proofs.State.{same_in_list, same_lists, end_most}
 use Rattle.grow.specs.Inside.{Branch, Apart, Path, FlipReady, Flipped, FlipsFor, Cleared}
@@ -250,15 +250,6 @@ module _ {z : Size} {u w : List ℕ} {root c k s before : ℕ} (n : Input z u) (
       other d m f = omega (arith, f, ap (at u CHANNEL) e, path.root_free, n.limits.few_channels)
 
 -- Clearing
-
-pub cleared_none : (w : List ℕ) → Cleared 0 w w
-cleared_none w =
-    record {
-      below = unchanged_refl _ _ w;
-      above = unchanged_refl _ _ w;
-      gone = λ j l. absurd (omega arith);
-      others = λ d m y. refl;
-    }
 
 module _ {j c : ℕ} {u v : List ℕ} (h : Cleared j u v) (l : j < most_channels) (e : c ≡ at v QUEUE j) where
   -- the queue is as it was, since marks lie below it

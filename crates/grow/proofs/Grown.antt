@@ -1,27 +1,26 @@
--- Laws of growing a plan: a search that finds nothing (search_asks, grown_nothing), one that finds a free channel (last_asks,
--- flip_asks, clear_asks, grown_free, root_placed), and the loop over the roots (growing_none, growing_asks, growing_more, growing_placed, growing_done).
+-- Laws of growing a plan: a search that finds nothing (grown_nothing), one that finds a free channel (last_asks,
+-- flip_asks, clear_asks, grown_placing), and the loop over the roots (growing_asks, growing_more, growing_left, growing_placed).
 -- Leans on work's State, on Flips and on Tree.
 use Prim.Native.Nat.{ℕ, suc, ◌+◌, ◌-◌, ◌≤◌, ◌<◌}
-use mathlib.Core.Path.{◌≡◌, ap, subst, sym, ◌∙◌}
-use mathlib.Core.Bool.{Bool, false}
+use mathlib.Core.Path.{◌≡◌, ap, sym, ◌∙◌}
+use mathlib.Core.Bool.{Bool, true, false}
 use mathlib.Core.Logic.{⊎_elim}
 use mathlib.Core.List.{List}
 use native.Mathlib.Decide.{ℕ_discrete}
-use native.Mathlib.Nat.{not-suc-le-zero}
 use native.Mathlib.Numerals.{add-one}
 use native.Mathlib.Omega.{arith}
+use borrow.Author.Count.{below_more}
 use lib.ListN.{length}
 use Rattle.units.specs.declared.Size.{Size}
 use Rattle.units.specs.Limits.{most_channels}
-use Rattle.work.specs.Work.{at, none, CHANNEL, SIGNAL, SHUT_SIGNAL, SCRATCH, FROM, QUEUE, MIDDLE, NUMBERS, Unchanged}
+use Rattle.work.specs.Work.{at, none, CHANNEL, SIGNAL, SHUT_SIGNAL, SCRATCH, FROM, QUEUE, MIDDLE, Unchanged}
 use Rattle.work.specs.Input.{Input}
 use Rattle.work.specs.State.{InList, Lists, Mates, Along, Keeps, Done, Sealed}
-use Rattle.work.proofs.Area.{unchanged_refl, unchanged_trans, unchanged_sym, unchanged_part, unchanged_at}
+use Rattle.work.proofs.Area.{unchanged_trans, unchanged_sym, unchanged_part, unchanged_at}
 use Rattle.work.proofs.Input.{same_input}
 use Rattle.work.proofs.State.{same_in_list, same_lists, same_sits, same_holds, same_mates, same_along, end_most, list_channel}
-use Rattle.grow.specs.declared.Found.{Found}
-use Rattle.grow.specs.declared.Found.TheVariants.{Free, Nothing}
-use Rattle.grow.specs.Inside.{Tree, SearchReady, Searched, SearchesFor, Path, FlipReady, Flipped, FlipsFor, ClearReady, Cleared, Rooted, RootReady, GrowsFor}
+use Rattle.std.proofs.Common.{Option, Some, None, true≢false}
+use Rattle.grow.specs.Inside.{Tree, Searched, SearchesFor, Path, FlipReady, Flipped, FlipsFor, ClearReady, Cleared, Rooted, RootReady, GrownFrom, GrowsFor}
 use Rattle.grow.specs.Growing.{Grown, Everyone}
 use Rattle.grow.proofs.Flips.{keeps_trans}
 use Rattle.grow.proofs.Tree.{in_queue}
@@ -59,11 +58,7 @@ module _ {z : Size} {root : ℕ} {v : List ℕ} (b : Rooted z root v) where
   sealed : Sealed z root v
   sealed = b.begun.sealed
 
-  -- what the search asks
-  pub search_asks : SearchReady root v
-  search_asks = record { size = z; begun = b.begun }
-
-  pub grown_nothing : {w : List ℕ} {f : Found} → SearchesFor root v w f → f ≡ Nothing → Grown z (root + 1) v w
+  pub grown_nothing : {w : List ℕ} {f : Option ℕ} → SearchesFor root v w f → f ≡ None → Grown z (root + 1) v w
   unfolding Searched
   grown_nothing {w} found e =
       let parts : Unchanged 0 SCRATCH w v × Sealed z (suc root) w = rw e at (found.each z b.begun) in
@@ -78,13 +73,13 @@ module _ {z : Size} {root : ℕ} {v : List ℕ} (b : Rooted z root v) where
       }
 
   -- what reading the last of the queue asks
-  pub last_asks : {w : List ℕ} {f : Found} {k : ℕ} → SearchesFor root v w f → f ≡ Free k → (1 ≤ k) × (QUEUE + (k - 1) < length w)
+  pub last_asks : {w : List ℕ} {f : Option ℕ} {k : ℕ} → SearchesFor root v w f → f ≡ Some k → (1 ≤ k) × (QUEUE + (k - 1) < length w)
   unfolding Searched
   last_asks {w} {k = k} found e =
-      let parts : Searched z root v w (Free k) = rw e at (found.each z b.begun) in
+      let parts : Searched z root v w (Some k) = rw e at (found.each z b.begun) in
       (parts.2, omega (arith, input.room, parts.0.size, parts.3))
 
-  module _ {w : List ℕ} {f : Found} {k : ℕ} (found : SearchesFor root v w f) (e : f ≡ Free k) where
+  module _ {w : List ℕ} {f : Option ℕ} {k : ℕ} (found : SearchesFor root v w f) (e : f ≡ Some k) where
     parts : Unchanged 0 SCRATCH w v × Tree z root k v w × (1 ≤ k) × (k ≤ most_channels) × ((j : ℕ) → suc j ≡ k → at w SIGNAL (at w QUEUE j) ≡ none)
     unfolding Searched
     parts = rw e at (found.each z b.begun)
@@ -199,7 +194,7 @@ module _ {z : Size} {root : ℕ} {v : List ℕ} (b : Rooted z root v) where
               was_free s h i (yes q) = q
               was_free s h i (no q) = absurd (omega (arith, input.limits.few_channels, keeps.placed s h (mated.placed s h q)))
 
-          pub grown_free : Grown z (root + 1) v y
+          grown_free : Grown z (root + 1) v y
           grown_free =
               record {
                 below = below;
@@ -212,21 +207,10 @@ module _ {z : Size} {root : ℕ} {v : List ℕ} (b : Rooted z root v) where
                 sealed = still_sealed;
               }
 
-          pub root_placed : at y CHANNEL root < z.channels
-          root_placed = rw (same_sits flipped_input mates root b.begun.root_signal) flipped.root_placed
+          pub grown_placing : {r : Bool} → GrownFrom z root v y r
+          grown_placing = record { grown = grown_free; placed = λ e. rw (same_sits flipped_input mates root b.begun.root_signal) flipped.root_placed }
 
 -- All roots
-
-grown_none : {z : Size} {w : List ℕ} → Input z w → Mates z w → Along z w → Sealed z 0 w → Grown z 0 w w
-grown_none {w = w} n m a h =
-    record {
-      below = unchanged_refl _ _ w;
-      shut = unchanged_refl _ _ w;
-      mates = m;
-      along = a;
-      keeps = keeps_refl _ w;
-      sealed = h;
-    }
 
 module _ {z : Size} {root : ℕ} {v w : List ℕ} (g : Grown z root v w) where
   -- what growing from a free signal asks
@@ -279,24 +263,11 @@ module _ {z : Size} {root : ℕ} {v w : List ℕ} (g : Grown z root v w) where
       earlier s r i (yes q) = absurd (o (ap (at w CHANNEL) (sym q) ∙ i))
       earlier s r i (no q) = omega arith
 
-  grown_done : root ≤ z.signals → z.signals ≤ root → Grown z z.signals v w
-  grown_done h o = let e : root ≡ z.signals = omega arith in subst (λ (r : ℕ). Grown z r v w) e g
-
 -- Whether everyone is placed
-
-everyone_none : {z : Size} {w : List ℕ} → Everyone z 0 w
-everyone_none = record { placed = λ s l. absurd (not-suc-le-zero l) }
 
 everyone_more : {z : Size} {root : ℕ} {w x : List ℕ} → root < z.signals → Keeps z w x → Everyone z root w → at x CHANNEL root < z.channels
     → Everyone z (root + 1) x
-everyone_more {z} {root} {w} {x} l k all here = record { placed = λ s m. go s m (ℕ_discrete s root) }
-  where
-    go : (s : ℕ) → s < root + 1 → Dec (s ≡ root) → at x CHANNEL s < z.channels
-    go s m (yes e) = rw e here
-    go s m (no e) = k.placed s (omega arith) (all.placed s (omega arith))
-
-everyone_done : {z : Size} {root : ℕ} {w : List ℕ} → root ≤ z.signals → z.signals ≤ root → Everyone z root w → Everyone z z.signals w
-everyone_done h o all = record { placed = λ s l. all.placed s (omega arith) }
+everyone_more {root = root} l k all here = record { placed = below_more _ root (λ s m. k.placed s (omega arith) (all.placed s m)) here }
 
 -- The loop over the roots
 
@@ -313,13 +284,7 @@ pub record GrownSoFar (z : Size) (root : ℕ) (unplaced : Bool) (v w : List ℕ)
   pub grown : Grown z root v w
   pub everyone : unplaced ≡ false → Everyone z root w
 
-pub growing_none : {z : Size} {w : List ℕ} → Growable z w → GrownSoFar z 0 false w w
-growing_none b = record { grown = grown_none b.input b.mates b.along b.sealed; everyone = λ e. everyone_none }
-
 module _ {z : Size} {root : ℕ} {unplaced : Bool} {v w : List ℕ} (b : Growable z v) (g : GrownSoFar z root unplaced v w) where
-  pub growing_room : NUMBERS ≤ length w
-  growing_room = omega (arith, b.input.room, g.grown.below.size)
-
   module _ (l : root < z.signals) where
     -- a free root: what growing from it asks, and what comes of it
     module _ (free : at w CHANNEL root ≡ none) where
@@ -329,13 +294,16 @@ module _ {z : Size} {root : ℕ} {unplaced : Bool} {v w : List ℕ} (b : Growabl
       pub growing_asks : RootReady root w
       growing_asks = record { size = z; rooted = rooted }
 
-      pub growing_more : {r : Bool} {x : List ℕ} → GrowsFor root unplaced w x r → GrownSoFar z (root + 1) r v x
-      growing_more h =
+      pub growing_more : {r : Bool} {x : List ℕ} → GrowsFor root w x r → r ≡ true → GrownSoFar z (root + 1) unplaced v x
+      growing_more h here =
           let from = h.each z rooted in
           record {
             grown = grown_more g.grown from.grown;
-            everyone = λ e. everyone_more l from.grown.keeps (g.everyone (from.earlier e)) (from.placed e);
+            everyone = λ e. everyone_more l from.grown.keeps (g.everyone e) (from.placed here);
           }
+
+      pub growing_left : {r : Bool} {x : List ℕ} → GrowsFor root w x r → GrownSoFar z (root + 1) true v x
+      growing_left h = record { grown = grown_more g.grown (h.each z rooted).grown; everyone = λ e. absurd (true≢false e) }
 
     -- a placed one
     pub growing_placed : (at w CHANNEL root ≡ none → ⊥) → GrownSoFar z (root + 1) unplaced v w
@@ -344,6 +312,3 @@ module _ {z : Size} {root : ℕ} {unplaced : Bool} {v w : List ℕ} (b : Growabl
           grown = grown_placed g.grown o;
           everyone = λ e. everyone_more l (keeps_refl z w) (g.everyone e) (g.grown.mates.placed root l o);
         }
-
-  pub growing_done : root ≤ z.signals → z.signals ≤ root → Grown z z.signals v w × (unplaced ≡ false → Everyone z z.signals w)
-  growing_done h o = (grown_done g.grown h o, λ e. everyone_done h o (g.everyone e))

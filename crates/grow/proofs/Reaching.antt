@@ -16,8 +16,8 @@ use Rattle.work.specs.Work.{at, none, START, END, LIVE, CHANNEL, SIGNAL, FROM, Q
 use Rattle.work.specs.State.{InList, Done, Sealed}
 use Rattle.work.proofs.Area.{unchanged_at}
 use Rattle.work.proofs.State.{end_most, list_channel}
-use Rattle.grow.specs.declared.Found.TheVariants.{Free, Nothing}
-use Rattle.grow.specs.Inside.{Begun, Searched}
+use Rattle.std.proofs.Common.{Some, None}
+use Rattle.grow.specs.Inside.{Begun, SearchReady, Searched}
 use Rattle.grow.proofs.Tree.{Marked, marked, Reached, reached_none, reached_more, list_entry, signal_now, channel_now, by_mark, marks_most, marks_stay, marks_grow, room_left}
 
 -- What the list of signal s holds before position k is marked.
@@ -48,9 +48,12 @@ pub record Scanning (z : Size) (root : ℕ) (v w : List ℕ) (signal head tail k
   pub end_is : end ≡ at v END signal
   pub scanned : Scanned v w signal k
 
-pub scanning_at : {z : Size} {root : ℕ} {v w : List ℕ} {signal head tail i j end : ℕ} → i ≡ j → Scanning z root v w signal head tail i end
-    → Scanning z root v w signal head tail j end
-scanning_at e x = rw e at x
+-- Both hold for every size that fits the search's beginning: its loops read no size.
+pub record ReachingFor (root : ℕ) (v w : List ℕ) (signal head tail : ℕ) : Type 0 where
+  pub each : (z : Size) → Begun z root v → Reaching z root v w signal head tail
+
+pub record ScanningFor (root : ℕ) (v w : List ℕ) (signal head tail k end : ℕ) : Type 0 where
+  pub each : (z : Size) → Begun z root v → Scanning z root v w signal head tail k end
 
 module _ {z : Size} {root : ℕ} {v : List ℕ} (b : Begun z root v) where
   in_list : (s p : ℕ) → at v START s ≤ p → p < at v END s → InList v s (at v LIVE p)
@@ -79,9 +82,6 @@ module _ {z : Size} {root : ℕ} {v : List ℕ} (b : Begun z root v) where
     signal_few : signal < most_signals
     signal_few = omega (arith, r.inside, b.input.limits.few_signals)
 
-    pub signal_bounds : (NUMBERS ≤ length w) × (signal < most_signals)
-    signal_bounds = (room_of r.reached, signal_few)
-
     pub scanning_begins : {k end : ℕ} → k ≡ at w START signal → end ≡ at w END signal → Scanning z root v w signal head tail k end
     scanning_begins ek ee =
         let still-start : at w START signal ≡ at v START signal = unchanged_at r.reached.frame START signal (omega arith) (omega (arith, signal_few)) in
@@ -103,7 +103,7 @@ module _ {z : Size} {root : ℕ} {v : List ℕ} (b : Begun z root v) where
             let l : i < tail = omega (arith, r.behind) in
             inr (i, l, ap (λ (x : ℕ). at v CHANNEL x) (sym (r.later i e)) ∙ b.mates.forth (at w QUEUE i) (r.reached.tree.branch.channel i l) (r.taken i l))
 
-  pub position_bounds : {w : List ℕ} {signal head tail k end : ℕ} → Scanning z root v w signal head tail k end → k < end → (NUMBERS ≤ length w) × (k < most_pairs)
+  position_bounds : {w : List ℕ} {signal head tail k end : ℕ} → Scanning z root v w signal head tail k end → k < end → (NUMBERS ≤ length w) × (k < most_pairs)
   position_bounds {signal = signal} x l = (room_of x.reaching.reached, omega (arith, x.end_is, end_most b.input b.lists signal x.reaching.inside))
 
   -- a position of the list that is being scanned
@@ -117,8 +117,8 @@ module _ {z : Size} {root : ℕ} {v : List ℕ} (b : Begun z root v) where
     channel_inside : c < z.channels
     channel_inside = list_channel b.input b.lists signal c x.reaching.inside listed
 
-    pub channel_bounds : (NUMBERS ≤ length w) × (c < most_channels)
-    channel_bounds = (room_of x.reaching.reached, omega (arith, channel_inside, b.input.limits.few_channels))
+    channel_bounds : c < most_channels
+    channel_bounds = omega (arith, channel_inside, b.input.limits.few_channels)
 
     scanned_more : {w' : List ℕ} → Scanned v w' signal k → at w' FROM c < none → Scanned v w' signal (k + 1)
     scanned_more {w'} s h =
@@ -137,13 +137,10 @@ module _ {z : Size} {root : ℕ} {v : List ℕ} (b : Begun z root v) where
           scanned = scanned_more x.scanned (omega (arith, marks_most b x.reaching.reached c channel_inside));
         }
 
-    pub queue_bounds : at w FROM c ≡ none → (NUMBERS ≤ length w) × (c < most_channels) × (tail < most_channels) × (signal < most_signals)
-    queue_bounds un = (room_of x.reaching.reached, channel_bounds.1, room_left b x.reaching.reached c channel_inside un, signal_few x.reaching)
-
     -- the channel was not marked, and now is
     module _ {u w' : List ℕ} (un : at w FROM c ≡ none) (p : Put w FROM c signal u) (q : Put u QUEUE tail c w') where
       mark : Marked w signal c tail w'
-      mark = marked channel_bounds.1 p q
+      mark = marked channel_bounds p q
 
       reached_now : Reached z root v w' (tail + 1)
       reached_now = reached_more b x.reaching.reached x.reaching.inside listed un mark (parent x.reaching)
@@ -184,7 +181,7 @@ module _ {z : Size} {root : ℕ} {v : List ℕ} (b : Begun z root v) where
                 scanned_more (stay signal k r.inside (omega (arith, x.end_is)) x.scanned) (omega (arith, mark.here, r.inside, b.input.limits.few_signals));
           }
 
-      pub search_found : {y : ℕ} → y ≡ at w' SIGNAL c → y ≡ none → Searched z root v w' (Free (tail + 1))
+      pub search_found : {y : ℕ} → y ≡ at w' SIGNAL c → y ≡ none → Searched z root v w' (Some (tail + 1))
       unfolding Searched
       search_found ey h = (
         reached_now.frame,
@@ -212,11 +209,6 @@ module _ {z : Size} {root : ℕ} {v : List ℕ} (b : Begun z root v) where
         pick : Dec (suc j < head) → Whole v w (at v SIGNAL (at w QUEUE j))
         pick (yes h) = x.reaching.done j h
         pick (no h) = rw (x.reaching.later j (omega (arith, lt_of_not-le h))) signal_whole
-
-    pub next_bounds : (head ≡ tail → ⊥) → (NUMBERS ≤ length w) × (head < tail) × (tail ≤ most_channels) × (at w QUEUE head < most_channels)
-    next_bounds h =
-        let more : head < tail = omega (arith, x.reaching.behind) in
-        (room_of x.reaching.reached, more, few_of x.reaching.reached, omega (arith, x.reaching.reached.tree.branch.channel head more, b.input.limits.few_channels))
 
     pub reaching_next : {c s : ℕ} → (head ≡ tail → ⊥) → c ≡ at w QUEUE head → s ≡ at w SIGNAL c → Reaching z root v w s (head + 1) tail
     reaching_next {c} {s} h ec es =
@@ -272,6 +264,22 @@ module _ {z : Size} {root : ℕ} {v : List ℕ} (b : Begun z root v) where
         free_done s h o f (no e) =
             done_still s h (b.sealed.free s h (omega arith) (sym (channel_now b x.reaching.reached.frame s h) ∙ f))
 
-    pub search_exhausted : head ≡ tail → Searched z root v w Nothing
+    pub search_exhausted : head ≡ tail → Searched z root v w None
     unfolding Searched
     search_exhausted q = (x.reaching.reached.frame, sealed_more q)
+
+-- What the inner loop's accesses ask, by the size that the area fits.
+module _ {root : ℕ} {v w : List ℕ} {signal head tail k end : ℕ} (r : SearchReady root v)
+    (x : ScanningFor root v w signal head tail k end) (l : k < end) where
+  now : Scanning r.size root v w signal head tail k end
+  now = x.each r.size r.begun
+
+  pub read_bounds : (NUMBERS ≤ length w) × (k < most_pairs)
+  read_bounds = position_bounds r.begun now l
+
+  module _ {c : ℕ} (e : c ≡ at w LIVE k) where
+    pub mark_bounds : c < most_channels
+    mark_bounds = channel_bounds r.begun now l e
+
+    pub new_bounds : at w FROM c ≡ none → (tail < most_channels) × (signal < most_signals)
+    new_bounds un = (room_left r.begun now.reaching.reached c (channel_inside r.begun now l e) un, signal_few r.begun now.reaching)

@@ -1,11 +1,9 @@
 -- Growing, part by part: what a search leaves, the path that it found, what flipping and clearing do, and what comes of one root.
 -- The code reads no size: what it asks (SearchReady, FlipReady, RootReady) holds for some size, and what it promises (SearchesFor,
 -- FlipsFor, GrowsFor) for every size that fits.
-use Rattle.std.specs.Prelude.{ℕ, suc, ◌+◌, ◌≤◌, ◌<◌, ◌≡◌, Bool, false, ◌⊎◌, List, length}
+use Rattle.std.specs.Prelude.{ℕ, suc, ◌+◌, ◌≤◌, ◌<◌, ◌≡◌, Bool, true, ◌⊎◌, List, length, Option, Some, None}
 use Rattle.units.specs.declared.Size.{Size}
 use Rattle.units.specs.Limits.{most_channels}
-use Rattle.grow.specs.declared.Found.{Found}
-use Rattle.grow.specs.declared.Found.TheVariants.{Free, Nothing}
 use Rattle.work.specs.Work.{at, none, CHANNEL, SIGNAL, SHUT_SIGNAL, SCRATCH, FROM, QUEUE, WHOLE, NUMBERS, Unchanged}
 use Rattle.work.specs.Input.{Input}
 use Rattle.work.specs.State.{InList, Lists, Mates, Along, Keeps, Sealed}
@@ -43,12 +41,12 @@ pub record Tree (z : Size) (root n : ℕ) (v w : List ℕ) : Type 0 where
   pub others : (c : ℕ) → c < z.channels → ((j : ℕ) → j < n → at w QUEUE j ≡ c → ⊥) → at w FROM c ≡ at v FROM c
 
 -- What a search leaves: scratch alone is changed; either a tree whose last channel is free, or the root is done too.
-unfoldable pub Searched : Size → ℕ → List ℕ → List ℕ → Found → Type 0
-Searched z root v w (Free n) = Unchanged 0 SCRATCH w v × Tree z root n v w × (1 ≤ n) × (n ≤ most_channels) × ((j : ℕ) → suc j ≡ n → at w SIGNAL (at w QUEUE j) ≡ none)
-Searched z root v w Nothing = Unchanged 0 SCRATCH w v × Sealed z (suc root) w
+unfoldable pub Searched : Size → ℕ → List ℕ → List ℕ → Option ℕ → Type 0
+Searched z root v w (Some n) = Unchanged 0 SCRATCH w v × Tree z root n v w × (1 ≤ n) × (n ≤ most_channels) × ((j : ℕ) → suc j ≡ n → at w SIGNAL (at w QUEUE j) ≡ none)
+Searched z root v w None = Unchanged 0 SCRATCH w v × Sealed z (suc root) w
 
 -- It is left so for every size that fits the beginning.
-pub record SearchesFor (root : ℕ) (v w : List ℕ) (found : Found) : Type 0 where
+pub record SearchesFor (root : ℕ) (v w : List ℕ) (found : Option ℕ) : Type 0 where
   pub each : (z : Size) → Begun z root v → Searched z root v w found
 
 -- Flipping the path from a channel of the queue back to the root
@@ -124,13 +122,11 @@ pub record RootReady (root : ℕ) (w : List ℕ) : Type 0 where
   pub size : Size
   pub rooted : Rooted size root w
 
--- What comes of one root: the plan is grown from it too; and where the answer is no, it is placed, and so far no root was left
--- unplaced.
-pub record GrownFrom (z : Size) (root : ℕ) (unplaced : Bool) (v w : List ℕ) (r : Bool) : Type 0 where
+-- What comes of one root: the plan is grown from it too; and where the answer is yes, it is placed.
+pub record GrownFrom (z : Size) (root : ℕ) (v w : List ℕ) (r : Bool) : Type 0 where
   pub grown : Grown z (root + 1) v w
-  pub placed : r ≡ false → at w CHANNEL root < z.channels
-  pub earlier : r ≡ false → unplaced ≡ false
+  pub placed : r ≡ true → at w CHANNEL root < z.channels
 
 -- It comes so for every size that fits the beginning.
-pub record GrowsFor (root : ℕ) (unplaced : Bool) (v w : List ℕ) (r : Bool) : Type 0 where
-  pub each : (z : Size) → Rooted z root v → GrownFrom z root unplaced v w r
+pub record GrowsFor (root : ℕ) (v w : List ℕ) (r : Bool) : Type 0 where
+  pub each : (z : Size) → Rooted z root v → GrownFrom z root v w r

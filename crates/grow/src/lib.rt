@@ -1,5 +1,6 @@
 // The plan grows: every free signal in turn is the root of a search (searching), and a path that is found is flipped (flipping).
-// specs/Growing says what comes of it.
+// specs/Growing says what comes of it. The loops go through indices: each turn writes the area that it reads, which an iterator would
+// hold borrowed.
 #![tactic(auto)]
 
 mod flipping;
@@ -16,29 +17,19 @@ use searching::search;
 use units::Size;
 use work::{CHANNEL, NONE, QUEUE, get};
 
-// What a search finds: a free channel, the last of so many reached, or nothing.
-#[derive(Clone, Copy)]
-pub enum Found {
-    Free(usize),
-    Nothing,
-}
-
 // One root: where the search finds a free channel the path to it is flipped, and its marks go; where not they stay. Says
-// whether it, or any root before it, is left without a channel.
-fn grow_from(w: &mut [u16], root: usize, unplaced: bool) -> bool
+// whether the root is placed.
+fn grow_from(w: &mut [u16], root: usize) -> bool
     requires { RootReady root w.old }
-    ensures { GrowsFor root unplaced w.old w.new result }
+    ensures { GrowsFor root w.old w.new result }
 {
-    let found = search(w, root);
-    match found {
-        Found::Free(n) => {
-            let c = get(w, QUEUE, n - 1);
-            flip(w, root, c, n);
-            clear(w, n);
-            unplaced
-        }
-        Found::Nothing => true,
-    }
+    let Some(reached) = search(w, root) else {
+        return false;
+    };
+    let c = get(w, QUEUE, reached - 1);
+    flip(w, root, c, reached);
+    clear(w, reached);
+    true
 }
 
 // All roots. Afterwards nothing more can be reached from a free signal. Says whether any signal is left without a channel.
@@ -46,14 +37,11 @@ pub fn grow(w: &mut [u16], size: Size) -> bool
     requires { Input size w.old × Lists size w.old × Mates size w.old × Along size w.old × Sealed size 0 w.old }
     ensures { Grown size size.signals w.old w.new × (result ≡ false → Everyone size size.signals w.new) }
 {
-    let signals = size.signals;
     let mut unplaced = false;
-    let mut root = 0;
-    while root < signals {
-        if get(w, CHANNEL, root) == NONE {
-            unplaced = grow_from(w, root, unplaced);
+    for root in 0..size.signals {
+        if get(w, CHANNEL, root) == NONE && !grow_from(w, root) {
+            unplaced = true;
         }
-        root += 1;
     }
     unplaced
 }

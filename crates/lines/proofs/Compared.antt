@@ -1,94 +1,49 @@
--- One law for each way through comparing two lines: what the loops have seen makes of the definitions in specs/Comparing.
--- Leans on plans' laws of the order.
-use Prim.Native.Nat.{ℕ, ◌+◌, ◌≤◌, ◌<◌}
-use mathlib.Core.Path.{◌≡◌, refl, ap, sym}
-use mathlib.Core.Bool.{Bool, true, false, true≢false, false≢true}
+-- What comparing two lines rank by rank makes of their order in specs/Comparing. Leans on plans' laws of the order.
+use Prim.Native.Nat.{ℕ, ◌≤◌, ◌<◌}
+use mathlib.Core.Path.{◌≡◌, refl, sym}
 use mathlib.Core.List.{List}
-use native.Mathlib.Nat.{not-suc-le-zero}
-use native.Mathlib.Numerals.{add-one}
 use native.Mathlib.Omega.{arith}
-use lib.ListN.{length, get_or}
+use Rattle.std.specs.Prelude.{Ok}
+use Rattle.std.specs.Ordering.{MatchOrdering, nat_cmp}
+use Rattle.std.specs.declared.cmp.Ordering.{Ordering}
+use Rattle.std.specs.declared.cmp.Ordering.TheVariants.{Less as Lesser, Equal, Greater}
+use Rattle.std.proofs.lemmas.Cmp.{ranked}
 use Rattle.plans.specs.Order.{Less, Same, filled}
-use Rattle.plans.proofs.Order.{same_more, Less_irrefl, Less_asym}
-use Rattle.units.specs.declared.refusals.Refusal.{Refusal}
-use Rattle.units.specs.Refusals.{no_line}
-use Rattle.lines.specs.declared.Comparison.{Comparison}
-use Rattle.lines.specs.declared.Comparison.TheVariants.{Refused, Lesser, Equal, Greater}
-use Rattle.lines.specs.Comparing.{Ordered, Compares, Judged}
+use Rattle.plans.proofs.Order.{Less_irrefl, Less_asym}
+use Rattle.lines.specs.Comparing.{Ordered}
 
--- Whether a list is a line
-
-pub too_long : (l : List ℕ) → 15 < length l → Judged l true
-too_long l h = record { yes = λ e n. omega (arith, n.short); no = λ e. absurd (true≢false e) }
-
-pub too_large : (l : List ℕ) (i : ℕ) → i < length l → 200 < get_or l i 0 → Judged l true
-too_large l i h k = record { yes = λ e n. omega (arith, n.small i h); no = λ e. absurd (true≢false e) }
-
-pub a_line : (l : List ℕ) (i : ℕ) → length l ≤ 15 → length l ≤ i → ((j : ℕ) → j < i → get_or l j 0 ≤ 200) → Judged l false
-a_line l i short all small =
-    record {
-      yes = λ e. absurd (false≢true e);
-      no = λ e. record { short = short; small = λ j h. small j (omega arith) };
-    }
-
--- The order of two lines that agree on the ranks before index i
-
-pub record Agreeing (a b : List ℕ) (i : ℕ) : Type 0 where
-  pub within : i ≤ 15
-  pub same : Same i (filled a) (filled b)
-
-pub agreeing_none : (a b : List ℕ) → Agreeing a b 0
-unfolding Same
-agreeing_none a b = record { within = omega arith; same = λ i l. absurd (not-suc-le-zero l) }
-
-module _ {a b : List ℕ} {i : ℕ} (e : Agreeing a b i) (inside : i < 15) (x y : ℕ) (ex : x ≡ filled a i) (ey : y ≡ filled b i) where
-  pub agreeing_more : y ≤ x → x ≤ y → Agreeing a b (i + 1)
-  agreeing_more l m =
-      rw (add-one i) (record { within = omega arith; same = same_more i (filled a) (filled b) e.same (omega arith) })
-
-  first_lesser : x < y → Less 15 (filled a) (filled b)
+-- The two lines agree on the ranks before index i.
+module _ (a b : List ℕ) (i : ℕ) (before : (j : ℕ) → j < i → filled a j ≡ filled b j) where
+  -- At i they differ.
+  pub ordered_by : i < 15 → (o : Ordering) → o ≡ nat_cmp (filled a i) (filled b i) → (o ≡ Equal → ⊥) → Ordered a b (Ok o)
   unfolding Same
-  first_lesser l = record { at = i; inside = inside; before = e.same; less = omega arith }
+  ordered_by inside o is differ = go o (ranked (filled a i) (filled b i) o is) differ
+    where
+      go : (o : Ordering) → MatchOrdering o (filled a i < filled b i) (filled a i ≡ filled b i) (filled b i < filled a i)
+          → (o ≡ Equal → ⊥) → Ordered a b (Ok o)
+      go Lesser less differ =
+          let l : Less 15 (filled a) (filled b) = record { at = i; inside = inside; before = before; less = less } in
+          record {
+            lesser = λ m. refl;
+            equal = λ e. absurd (Less_irrefl 15 (filled a) (filled b) e l);
+            greater = λ m. absurd (Less_asym 15 (filled a) (filled b) l m);
+          }
+      go Equal same differ = absurd (differ refl)
+      go Greater less differ =
+          let l : Less 15 (filled b) (filled a) = record { at = i; inside = inside; before = λ j k. sym (before j k); less = less } in
+          record {
+            lesser = λ m. absurd (Less_asym 15 (filled a) (filled b) m l);
+            equal = λ e. absurd (Less_irrefl 15 (filled b) (filled a) (λ j k. sym (e j k)) l);
+            greater = λ m. refl;
+          }
 
-  first_greater : y < x → Less 15 (filled b) (filled a)
+  -- They agree on all ranks.
+  pub ordered_equal : 15 ≤ i → Ordered a b (Ok Equal)
   unfolding Same
-  first_greater l = record { at = i; inside = inside; before = λ j k. sym (e.same j k); less = omega arith }
-
-  pub ordered_lesser : x < y → Ordered a b Lesser
-  ordered_lesser l =
+  ordered_equal all =
+      let same : Same 15 (filled a) (filled b) = λ j k. before j (omega arith) in
       record {
-        lesser = λ h. refl;
-        equal = λ h. absurd (Less_irrefl 15 (filled a) (filled b) h (first_lesser l));
-        greater = λ h. absurd (Less_asym 15 (filled a) (filled b) (first_lesser l) h);
+        lesser = λ l. absurd (Less_irrefl 15 (filled a) (filled b) same l);
+        equal = λ e. refl;
+        greater = λ l. absurd (Less_irrefl 15 (filled b) (filled a) (λ j k. sym (same j k)) l);
       }
-
-  pub ordered_greater : y < x → Ordered a b Greater
-  unfolding Same
-  ordered_greater l =
-      record {
-        lesser = λ h. absurd (Less_asym 15 (filled a) (filled b) h (first_greater l));
-        equal = λ h. absurd (Less_irrefl 15 (filled b) (filled a) (λ j k. sym (h j k)) (first_greater l));
-        greater = λ h. refl;
-      }
-
-pub ordered_equal : {a b : List ℕ} {i : ℕ} → Agreeing a b i → 15 ≤ i → Ordered a b Equal
-unfolding Same
-ordered_equal {a} {b} e all =
-    let whole : Same 15 (filled a) (filled b) = λ j k. e.same j (omega arith) in
-    record {
-      lesser = λ h. absurd (Less_irrefl 15 (filled a) (filled b) whole h);
-      equal = λ h. refl;
-      greater = λ h. absurd (Less_irrefl 15 (filled b) (filled a) (λ j k. sym (whole j k)) h);
-    }
-
--- The whole comparison
-
-module _ (a b : List ℕ) where
-  pub refused_first : (q : Bool) (r : Refusal) → Judged a q → q ≡ true → r ≡ no_line → Compares a b (Refused r)
-  refused_first q r j e n = record { refused = λ h. ap Refused n; ordered = λ l m. absurd (j.yes e l) }
-
-  pub refused_second : (q : Bool) (r : Refusal) → Judged b q → q ≡ true → r ≡ no_line → Compares a b (Refused r)
-  refused_second q r j e n = record { refused = λ h. ap Refused n; ordered = λ l m. absurd (j.yes e m) }
-
-  pub compared : (q r : Bool) (o : Comparison) → Judged a q → q ≡ false → Judged b r → r ≡ false → Ordered a b o → Compares a b o
-  compared q r o j e k f h = record { refused = λ n. absurd (n (j.no e) (k.no f)); ordered = λ m n. h }

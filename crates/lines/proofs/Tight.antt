@@ -8,13 +8,13 @@ use native.Mathlib.Nat.{not-suc-le-zero}
 use native.Mathlib.Decide.{dec_le}
 use native.Mathlib.Omega.{arith}
 use lib.ListN.{length, get_or}
-use lib.IntN.{ℤ, pos, negsuc, pos-ne-negsuc}
+use lib.IntN.{ℤ, pos, negsuc}
 use Rattle.plans.specs.Order.{Less, Same, filled, Compared}
 use Rattle.plans.specs.Order.Compared.{lesser, equal, greater}
 use Rattle.plans.proofs.Order.{compare_lines, split_last, Less_irrefl, Less_asym}
-use Rattle.units.specs.Refusals.{no_line}
-use Rattle.lines.specs.declared.Comparison.{Comparison}
-use Rattle.lines.specs.declared.Comparison.TheVariants.{Refused, Lesser, Equal, Greater}
+use Rattle.std.specs.Prelude.{Result}
+use Rattle.std.specs.declared.cmp.Ordering.{Ordering}
+use Rattle.units.specs.declared.refusals.Refusal.{Refusal}
 use Rattle.lines.specs.Comparing.{Line, Compares, comparison_order}
 
 -- Whether a list is a line can be decided.
@@ -37,18 +37,18 @@ line_or_not l = go (dec_le (length l) 15) (small_or_not l (length l))
     go (yes h) (yes k) = yes (record { short = h; small = k })
 
 -- Whatever the two lists are, the promise names one answer.
-answer : (a b : List ℕ) → (o : Comparison) × ((r : Comparison) → Compares a b r → r ≡ o)
+answer : (a b : List ℕ) → (o : Result Ordering Refusal) × ((r : Result Ordering Refusal) → Compares a b r → r ≡ o)
 answer a b = go (line_or_not a) (line_or_not b) (compare_lines 15 (filled a) (filled b))
   where
-    go : Dec (Line a) → Dec (Line b) → Compared 15 (filled a) (filled b) → (o : Comparison) × ((r : Comparison) → Compares a b r → r ≡ o)
-    go (no h) k c = (Refused no_line, λ r p. p.refused (λ m n. h m))
-    go (yes h) (no k) c = (Refused no_line, λ r p. p.refused (λ m n. k n))
-    go (yes h) (yes k) (lesser l) = (Lesser, λ r p. (p.ordered h k).lesser l)
-    go (yes h) (yes k) (equal e) = (Equal, λ r p. (p.ordered h k).equal e)
-    go (yes h) (yes k) (greater l) = (Greater, λ r p. (p.ordered h k).greater l)
+    go : Dec (Line a) → Dec (Line b) → Compared 15 (filled a) (filled b) → (o : Result Ordering Refusal) × ((r : Result Ordering Refusal) → Compares a b r → r ≡ o)
+    go (no h) k c = (_, λ r p. p.refused (λ m n. h m))
+    go (yes h) (no k) c = (_, λ r p. p.refused (λ m n. k n))
+    go (yes h) (yes k) (lesser l) = (_, λ r p. (p.ordered h k).lesser l)
+    go (yes h) (yes k) (equal e) = (_, λ r p. (p.ordered h k).equal e)
+    go (yes h) (yes k) (greater l) = (_, λ r p. (p.ordered h k).greater l)
 
 -- Two answers that meet the promise on the same two lists are equal, and so are number, place and order.
-pub compare_tight : (a b : List ℕ) (r r' : Comparison) → Compares a b r → Compares a b r' → r ≡ r'
+pub compare_tight : (a b : List ℕ) (r r' : Result Ordering Refusal) → Compares a b r → Compares a b r' → r ≡ r'
 compare_tight a b r r' p p' = (answer a b).1 r p ∙ sym ((answer a b).1 r' p')
 
 -- What the order of two lines means: −1 exactly where the first is the lesser, 0 exactly where they are equal, 1 exactly where
@@ -58,32 +58,29 @@ pub record OrderMeans (a b : List ℕ) (o : ℤ) : Type 0 where
   pub zero : (o ≡ pos 0) ↔ Same 15 (filled a) (filled b)
   pub one : (o ≡ pos 1) ↔ Less 15 (filled b) (filled a)
 
-pub order_means : (a b : List ℕ) (r : Comparison) → Line a → Line b → Compares a b r → OrderMeans a b (comparison_order r)
+pub order_means : (a b : List ℕ) (r : Result Ordering Refusal) → Line a → Line b → Compares a b r → OrderMeans a b (comparison_order r)
 unfolding Same
 order_means a b r h k p = go (compare_lines 15 (filled a) (filled b))
   where
-    zero_is_not_one : pos 0 ≡ pos 1 → ⊥
-    zero_is_not_one e = let z : ◌≡◌ {A = ℕ} 0 1 = cc in omega arith
-
     go : Compared 15 (filled a) (filled b) → OrderMeans a b (comparison_order r)
     go (lesser l) =
         rw ((p.ordered h k).lesser l)
         (record {
           minus_one = (λ e. l, λ m. refl);
-          zero = (λ e. absurd (pos-ne-negsuc 0 0 (sym e)), λ e. absurd (Less_irrefl 15 (filled a) (filled b) e l));
-          one = (λ e. absurd (pos-ne-negsuc 1 0 (sym e)), λ m. absurd (Less_asym 15 (filled a) (filled b) l m));
+          zero = (λ e. cc, λ e. absurd (Less_irrefl 15 (filled a) (filled b) e l));
+          one = (λ e. cc, λ m. absurd (Less_asym 15 (filled a) (filled b) l m));
         })
     go (equal e) =
         rw ((p.ordered h k).equal e)
         (record {
-          minus_one = (λ q. absurd (pos-ne-negsuc 0 0 q), λ m. absurd (Less_irrefl 15 (filled a) (filled b) e m));
+          minus_one = (λ q. cc, λ m. absurd (Less_irrefl 15 (filled a) (filled b) e m));
           zero = (λ q. e, λ m. refl);
-          one = (λ q. absurd (zero_is_not_one q), λ m. absurd (Less_irrefl 15 (filled b) (filled a) (λ j l. sym (e j l)) m));
+          one = (λ q. cc, λ m. absurd (Less_irrefl 15 (filled b) (filled a) (λ j l. sym (e j l)) m));
         })
     go (greater l) =
         rw ((p.ordered h k).greater l)
         (record {
-          minus_one = (λ q. absurd (pos-ne-negsuc 1 0 q), λ m. absurd (Less_asym 15 (filled a) (filled b) m l));
-          zero = (λ q. absurd (zero_is_not_one (sym q)), λ m. absurd (Less_irrefl 15 (filled b) (filled a) (λ j i. sym (m j i)) l));
+          minus_one = (λ q. cc, λ m. absurd (Less_asym 15 (filled a) (filled b) m l));
+          zero = (λ q. cc, λ m. absurd (Less_irrefl 15 (filled b) (filled a) (λ j i. sym (m j i)) l));
           one = (λ q. l, λ m. refl);
         })

@@ -1,105 +1,62 @@
 // Comparing two lines of counts, rank 1 first, a byte each, by the order that best plans are defined by.
 #![tactic(auto)]
 
-ghost use Rattle.std.specs.Prelude.{◌≡◌};
+ghost use Rattle.std.specs.Prelude.{◌≡◌, Ok};
 ghost use Rattle.plans.specs.Order.{filled};
-ghost use Rattle.lines.specs.Comparing.{Judged, Ordered, Compares, comparison_refusal, comparison_order};
+ghost use Rattle.lines.specs.Comparing.{Judged, Ordered, Compares, comparison_order};
 
-use units::{MOST_RANKS, Refusal};
-
-// The largest count: as many as there can be signals.
-const LARGEST: u8 = 200;
-
-// What comparing two lines comes to.
-#[derive(Clone, Copy)]
-pub enum Comparison {
-    // One of them has more than 15 counts or a count above 200.
-    Refused(Refusal),
-    // The first is the lesser.
-    Lesser,
-    Equal,
-    // The first is the greater.
-    Greater,
-}
+use std::cmp::Ordering;
+use units::{MOST_RANKS, MOST_SIGNALS, Refusal};
 
 // The count at index i; a shorter line is filled up with zeros.
 fn count_at(line: &[u8], i: usize) -> u8
     ensures { result ≡ filled line.now i }
 {
-    if i < line.len() { line[i] } else { 0 }
+    line.get(i).copied().unwrap_or(0)
 }
 
 // Whether there are more than 15 counts or a count above 200.
 fn is_no_line(line: &[u8]) -> bool
     ensures { Judged line.now result }
 {
-    if MOST_RANKS < line.len() {
-        return true;
-    }
-    let mut i = 0;
-    while i < line.len() {
-        if LARGEST < line[i] {
-            return true;
-        }
-        i += 1;
-    }
-    false
+    MOST_RANKS < line.len() || line.iter().any(|&count| MOST_SIGNALS < usize::from(count))
 }
 
 // The order of two lines that are known to be lines: the first rank where they differ decides.
-fn order_of(a: &[u8], b: &[u8]) -> Comparison
-    ensures { Ordered a.now b.now result }
+// By index, since the shorter line goes on with zeros. Tried: arrays filled up by from_fn, and their own order; the law from the slices'
+// order is longer than this loop's, and what from_fn says of its closure's calls was left open.
+#[tactic(auto, using(crate::proofs::Compared::ordered_by, crate::proofs::Compared::ordered_equal))]
+fn order_of(a: &[u8], b: &[u8]) -> Ordering
+    ensures { Ordered a.now b.now (Ok result) }
 {
-    let mut i = 0;
-    while i < MOST_RANKS {
-        let x = count_at(a, i);
-        let y = count_at(b, i);
-        if x < y {
-            return Comparison::Lesser;
+    for i in 0..MOST_RANKS {
+        let order = count_at(a, i).cmp(&count_at(b, i));
+        if order != Ordering::Equal {
+            return order;
         }
-        if y < x {
-            return Comparison::Greater;
-        }
-        i += 1;
     }
-    Comparison::Equal
+    Ordering::Equal
 }
 
 // Compares two lines (row 5).
-pub fn compare(a: &[u8], b: &[u8]) -> Comparison
+pub fn compare(a: &[u8], b: &[u8]) -> Result<Ordering, Refusal>
     ensures { Compares a.now b.now result }
 {
-    if is_no_line(a) {
-        return Comparison::Refused(Refusal::no_line());
+    if is_no_line(a) || is_no_line(b) {
+        return Err(Refusal::NoLine);
     }
-    if is_no_line(b) {
-        return Comparison::Refused(Refusal::no_line());
-    }
-    order_of(a, b)
+    Ok(order_of(a, b))
 }
 
-impl Comparison {
-    // Number and place; 0 and 0 where the lines could be compared.
-    pub fn refusal(self) -> Refusal
-        ensures { result ≡ comparison_refusal self }
-    {
-        match self {
-            Comparison::Refused(refusal) => refusal,
-            Comparison::Lesser => Refusal::success(),
-            Comparison::Equal => Refusal::success(),
-            Comparison::Greater => Refusal::success(),
-        }
-    }
-
-    // -1 where the first line is the lesser, 1 where it is the greater, 0 where they are equal or there is a refusal.
-    pub fn order(self) -> i32
-        ensures { result ≡ comparison_order self }
-    {
-        match self {
-            Comparison::Refused(_) => 0,
-            Comparison::Lesser => -1,
-            Comparison::Equal => 0,
-            Comparison::Greater => 1,
-        }
+// What a comparison comes to as a number: -1 where the first line is the lesser, 1 where it is the greater, 0 where they are equal or
+// there is a refusal.
+pub fn order(comparison: Result<Ordering, Refusal>) -> i32
+    ensures { result ≡ comparison_order comparison }
+{
+    match comparison {
+        Ok(Ordering::Less) => -1,
+        Ok(Ordering::Equal) => 0,
+        Ok(Ordering::Greater) => 1,
+        Err(_) => 0,
     }
 }

@@ -3,41 +3,44 @@
 -- Leans on Digits.
 use Prim.Native.Nat.{ℕ, ◌+◌, ◌-◌, ◌≤◌, ◌<◌}
 use mathlib.Core.Path.{◌≡◌, refl, ap, sym, ◌∙◌}
-use mathlib.Core.Bool.{Bool, true, false, cond}
+use mathlib.Core.Bool.{Bool, true, false}
 use mathlib.Core.List.{List, [], ◌∷◌}
 use native.Mathlib.Decide.{ℕ_discrete}
 use native.Mathlib.Omega.{arith}
 use lib.ListN.{length, get_or}
-use borrow.Author.Tests.{eq-eqb, ne_eqb}
-use Rattle.units.specs.declared.Bytes.{Bytes}
+use Rattle.std.proofs.lemmas.Bool.{cond_both}
+use Rattle.std.proofs.lemmas.Bool.Decides.{nat_tests}
+use Rattle.std.specs.Prelude.{Result, Ok, Err}
+use Rattle.units.specs.declared.refusals.Refusal.{Refusal}
+use Rattle.units.specs.declared.refusals.Refusal.TheVariants.{NoMark, NoDigit}
+use Rattle.opening.specs.declared.headers.Part.{Part}
 use Rattle.opening.specs.declared.headers.Header.{Header}
-use Rattle.opening.specs.declared.headers.Header.TheVariants.{NoMark, NoDigit, OpenEnded, Counted}
+use Rattle.opening.specs.declared.headers.Header.TheVariants.{OpenEnded, Counted}
 use Rattle.opening.specs.Header.{is_digit, digits_at2, count_at2, first_other, counting, counted_in, header_in, Missing, Counts, HeaderSays}
 use Rattle.opening.proofs.Digits.{digit_yes, digit_least, digit_most, stands, digit_stands, digits_each, digits_all, header_inside, counted_spoilt, first_spoils, Spoilt}
 
 module _ (s : List ℕ) where
-  pub header_unmarked : (get_or s 0 0 ≡ 35 → ⊥) → header_in s ≡ NoMark
+  pub header_unmarked : (get_or s 0 0 ≡ 35 → ⊥) → header_in s ≡ Err NoMark
   unfolding header_in
-  header_unmarked h = rw (ne_eqb (get_or s 0 0) 35 h)
+  header_unmarked h = grind (arith, nat_tests)
 
   module _ (marked : get_or s 0 0 ≡ 35) where
-    pub header_undigited : is_digit (get_or s 1 0) ≡ false → header_in s ≡ NoDigit 1
+    pub header_undigited : is_digit (get_or s 1 0) ≡ false → header_in s ≡ Err (NoDigit 1)
     unfolding header_in
-    header_undigited h = rw (eq-eqb (get_or s 0 0) 35 marked, h)
+    header_undigited h = grind (arith, nat_tests)
 
-    pub header_ended : get_or s 1 0 ≡ 48 → header_in s ≡ OpenEnded
-    unfolding header_in
-    header_ended e =
-        rw (eq-eqb (get_or s 0 0) 35 marked, digit_yes (get_or s 1 0) (omega arith) (omega arith), eq-eqb (get_or s 1 0) 48 e)
+    pub header_ended : get_or s 1 0 ≡ 48 → header_in s ≡ Ok OpenEnded
+    unfolding header_in is_digit
+    header_ended e = grind (arith, nat_tests)
 
     pub header_counted : is_digit (get_or s 1 0) ≡ true → (get_or s 1 0 ≡ 48 → ⊥) → header_in s ≡ counted_in s (get_or s 1 0 - 48)
     unfolding header_in
-    header_counted d h = rw (eq-eqb (get_or s 0 0) 35 marked, d, ne_eqb (get_or s 1 0) 48 h)
+    header_counted d h = grind (arith, nat_tests)
 
     -- From the bytes to what the answer tells
 
     -- byte 1 is no digit
-    undigited_says : is_digit (get_or s 1 0) ≡ false → HeaderSays s (NoDigit 1)
+    undigited_says : is_digit (get_or s 1 0) ≡ false → HeaderSays s (Err (NoDigit 1))
     unfolding HeaderSays
     undigited_says h =
         record {
@@ -77,27 +80,25 @@ module _ (s : List ℕ) where
 
       counted_says : HeaderSays s (counted_in s k)
       unfolding HeaderSays counted_in counting k
-      counted_says = go (digits_at2 s k) refl
+      counted_says =
+          cond_both (digits_at2 s k) (Ok (counting (2 + k) (count_at2 s k))) (Err (NoDigit (first_other s k))) (HeaderSays s)
+          (λ e. record {
+            k = k;
+            some = omega (arith, low, some);
+            few = omega (arith, high);
+            mark = marked;
+            form = omega (arith, low);
+            digits = e;
+            at = refl;
+            value = refl;
+          })
+          (λ e. spoilt_missing (first_other s k) (first_spoils s k e))
         where
           low : 48 ≤ get_or s 1 0
           low = digit_least (get_or s 1 0) digit
 
           high : get_or s 1 0 ≤ 57
           high = digit_most (get_or s 1 0) digit
-
-          go : (b : Bool) → digits_at2 s k ≡ b → HeaderSays s (cond b (counting (2 + k) (count_at2 s k)) (NoDigit (first_other s k)))
-          go true e =
-              record {
-                k = k;
-                some = omega (arith, low, some);
-                few = omega (arith, high);
-                mark = marked;
-                form = omega (arith, low);
-                digits = e;
-                at = refl;
-                value = refl;
-              }
-          go false e = spoilt_missing (first_other s k) (first_spoils s k e)
 
   -- What the answer tells is true.
   pub header_says : HeaderSays s (header_in s)
@@ -115,11 +116,11 @@ module _ (s : List ℕ) where
 
   -- From what an answer tells to the answer
 
-  missing_header : (i : ℕ) → Missing s i → header_in s ≡ NoDigit i
+  missing_header : (i : ℕ) → Missing s i → header_in s ≡ Err (NoDigit i)
   missing_header i f = go (ℕ_discrete i 1)
     where
-      go : Dec (i ≡ 1) → header_in s ≡ NoDigit i
-      go (yes e) = header_undigited f.mark (rw e at f.other) ∙ ap NoDigit (sym e)
+      go : Dec (i ≡ 1) → header_in s ≡ Err (NoDigit i)
+      go (yes e) = header_undigited f.mark (rw e at f.other) ∙ ap (λ (j : ℕ). Err (NoDigit j)) (sym e)
       go (no e) =
           let first : is_digit (get_or s 1 0) ≡ true = f.before 1 (omega arith) (omega (arith, f.behind)) in
           let same : 2 + (i - 2) ≡ i = omega (arith, f.behind) in
@@ -127,9 +128,9 @@ module _ (s : List ℕ) where
           ∙ counted_spoilt s (i - 2) (get_or s 1 0 - 48) (omega (arith, f.needed, f.behind))
           (digits_all s (i - 2) (λ j l. f.before (2 + j) (omega arith) (omega arith)))
           (rw same f.other)
-          ∙ ap NoDigit same
+          ∙ ap (λ (j : ℕ). Err (NoDigit j)) same
 
-  pub counts_header : {start n : ℕ} → Counts s start n → header_in s ≡ counting start n
+  pub counts_header : {start n : ℕ} → Counts s start n → header_in s ≡ Ok (counting start n)
   unfolding counted_in
   counts_header {start} {n} f =
       let k : get_or s 1 0 - 48 ≡ f.k = omega (arith, f.form) in
@@ -137,43 +138,40 @@ module _ (s : List ℕ) where
       ∙ rw (k, f.digits, f.at, f.value) refl
 
   -- No other answer would be true.
-  pub says_header : (h : Header) → HeaderSays s h → header_in s ≡ h
+  pub says_header : (h : Result Header Refusal) → HeaderSays s h → header_in s ≡ h
   unfolding HeaderSays counting
-  says_header NoMark f = header_unmarked f
-  says_header (NoDigit i) f = missing_header i f
-  says_header OpenEnded f = header_ended f.mark f.form
-  says_header (Counted start n) f = counts_header f
+  says_header (Err NoMark) f = header_unmarked f
+  says_header (Err (NoDigit i)) f = missing_header i f
+  says_header (Err other) f = absurd f
+  says_header (Ok OpenEnded) f = header_ended f.mark f.form
+  says_header (Ok (Counted part)) f = counts_header f
 
 -- How far a header reaches
 
-module _ (s : List ℕ) (h : Header) (read : h ≡ header_in s) where
-  said : (g : Header) → h ≡ g → HeaderSays s g
-  said g e = rw (← e, read) (header_says s)
+pub ended_long : (s : List ℕ) → Ok OpenEnded ≡ header_in s → 2 ≤ length s
+unfolding HeaderSays
+ended_long s e = stands s 1 (omega (arith, (rw (← e) at (header_says s)).form))
 
-  pub ended_long : h ≡ OpenEnded → 2 ≤ length s
-  unfolding HeaderSays
-  ended_long e = stands s 1 (omega (arith, (said OpenEnded e).form))
-
-  pub counted_long : (start : ℕ) (n : Bytes) → h ≡ Counted start n → start ≤ length s
-  unfolding HeaderSays
-  counted_long start n e =
-      let f = said (Counted start n) e in
-      omega (arith, f.at, header_inside s f.k f.some f.digits)
+pub counted_long : (s : List ℕ) (part : Part) → Ok (Counted part) ≡ header_in s → part.start ≤ length s
+unfolding HeaderSays
+counted_long s part e =
+    let f = rw (← e) at (header_says s) in
+    omega (arith, f.at, header_inside s f.k f.some f.digits)
 
 -- Where a digit is missing: `#`, `#x`, `#1a`, and `#9` with eight digits.
 
-missing_alone : header_in (35 ∷ []) ≡ NoDigit 1
+missing_alone : header_in (35 ∷ []) ≡ Err (NoDigit 1)
 unfolding header_in is_digit
 missing_alone = refl
 
-missing_form : header_in (35 ∷ 120 ∷ []) ≡ NoDigit 1
+missing_form : header_in (35 ∷ 120 ∷ []) ≡ Err (NoDigit 1)
 unfolding header_in is_digit
 missing_form = refl
 
-missing_count : header_in (35 ∷ 49 ∷ 97 ∷ []) ≡ NoDigit 2
+missing_count : header_in (35 ∷ 49 ∷ 97 ∷ []) ≡ Err (NoDigit 2)
 unfolding header_in is_digit counted_in digits_at2 first_other
 missing_count = refl
 
-missing_ninth : header_in (35 ∷ 57 ∷ 48 ∷ 48 ∷ 48 ∷ 48 ∷ 48 ∷ 48 ∷ 48 ∷ 48 ∷ []) ≡ NoDigit 10
+missing_ninth : header_in (35 ∷ 57 ∷ 48 ∷ 48 ∷ 48 ∷ 48 ∷ 48 ∷ 48 ∷ 48 ∷ 48 ∷ []) ≡ Err (NoDigit 10)
 unfolding header_in is_digit counted_in digits_at2 first_other
 missing_ninth = refl

@@ -1,75 +1,72 @@
 // Reading a header: which form a block has by its first bytes, and how many bytes it counts. How a block must end is not judged
 // here. specs/Header says what is read from every input.
-ghost use Rattle.std.specs.Prelude.{◌≡◌, ◌≤◌, get_or};
+ghost use Rattle.std.specs.Prelude.{◌≡◌, ◌+◌, ◌-◌, ◌≤◌, true, false, length, take, drop, get_or, MatchResult};
 ghost use Rattle.opening.specs.Header.{is_digit, counted_in, header_in};
 
-use units::Bytes;
+use units::{Bytes, Refusal};
 
-// What the first bytes of an input say.
-#[derive(Clone, Copy)]
+// A part of a caller's bytes: where it starts, and how many bytes it has.
+#[derive(Clone, Copy, Debug, PartialEq, Eq)]
+pub struct Part {
+    pub start: usize,
+    pub length: Bytes,
+}
+
+impl Part {
+    // The part's bytes.
+    pub fn of(self, block: &[u8]) -> &[u8]
+        requires { self.start + self.length.0 ≤ length block.now }
+        ensures { result.now ≡ take self.length.0 (drop self.start block.now) }
+    {
+        &block[self.start..self.start + self.length.0]
+    }
+}
+
+// What the header says of a block.
+#[derive(Clone, Copy, Debug, PartialEq, Eq)]
 pub enum Header {
-    // The first byte is not `#`.
-    NoMark,
-    // At this byte a digit is missing where the form needs one.
-    NoDigit(usize),
     // `#0`.
     OpenEnded,
     // So many bytes from `start` on.
-    Counted { start: usize, length: Bytes },
+    Counted(Part),
 }
 
-// The byte at i; past the end 0, which is no mark and no digit.
-fn byte_at(s: &[u8], i: usize) -> usize
-    ensures { (result ≡ get_or s.now i 0) × (result ≤ 255) }
+// Reads the digit at byte i, which the form needs.
+#[tactic(auto, unfolding(crate::specs::Header::is_digit))]
+fn read_digit(block: &[u8], i: usize) -> Result<usize, Refusal>
+    ensures { let byte = get_or block.now i 0 in MatchResult result (λ digit. (is_digit byte ≡ true) × (digit ≡ byte - 48)) (λ refusal. (is_digit byte ≡ false) × (refusal ≡ Refusal.NoDigit i)) }
 {
-    if i < s.len() { s[i] as usize } else { 0 }
-}
-
-// Whether a byte is a decimal digit.
-fn is_digit(byte: usize) -> bool
-    ensures { result ≡ is_digit byte }
-{
-    if byte < 48 {
-        return false;
+    match block.get(i) {
+        Some(byte @ b'0'..=b'9') => Ok(usize::from(byte - b'0')),
+        _ => Err(Refusal::NoDigit(i)),
     }
-    byte <= 57
 }
 
 // Reads so many count digits.
-fn read_count(block: &[u8], digits: usize) -> Header
+fn read_count(block: &[u8], digits: usize) -> Result<Header, Refusal>
     requires { digits ≤ 9 }
     ensures { result ≡ counted_in block.now digits }
 {
     let mut count = 0;
-    let mut i = 0;
-    while i < digits {
-        let digit = byte_at(block, 2 + i);
-        if is_digit(digit) {
-            count = count * 10 + (digit - 48);
-        } else {
-            return Header::NoDigit(2 + i);
-        }
-        i += 1;
+    for i in 0..digits {
+        count = count * 10 + read_digit(block, 2 + i)?;
     }
-    Header::Counted {
+    Ok(Header::Counted(Part {
         start: 2 + digits,
         length: Bytes(count),
-    }
+    }))
 }
 
 // Reads the mark, the digit behind it, and the count digits that this one asks for.
-pub fn read_header(block: &[u8]) -> Header
+#[tactic(auto, unfolding(crate::specs::Header::header_in, crate::specs::Header::is_digit))]
+pub fn read_header(block: &[u8]) -> Result<Header, Refusal>
     ensures { result ≡ header_in block.now }
 {
-    if byte_at(block, 0) != 35 {
-        return Header::NoMark;
+    let Some(b'#') = block.first() else {
+        return Err(Refusal::NoMark);
+    };
+    match read_digit(block, 1)? {
+        0 => Ok(Header::OpenEnded),
+        digits => read_count(block, digits),
     }
-    let form = byte_at(block, 1);
-    if is_digit(form) {
-        if form == 48 {
-            return Header::OpenEnded;
-        }
-        return read_count(block, form - 48);
-    }
-    Header::NoDigit(1)
 }

@@ -2,81 +2,64 @@
 // part of the caller's bytes. specs/Opening says what is found in every input.
 #![tactic(auto)]
 
-ghost use Rattle.std.specs.Prelude.{◌≡◌, ◌+◌, ◌≤◌, length, drop};
-ghost use Rattle.opening.specs.Opening.{index_of, ended_of, counted_of, opening_of, payload_of};
+ghost use Rattle.std.specs.Prelude.{◌≡◌, ◌≤◌, length};
+ghost use Rattle.opening.specs.Opening.{ended_of, counted_of, opening_of, payload_of};
 
 mod headers;
 
-pub use headers::{Header, read_header};
+pub use headers::{Header, Part, read_header};
 use units::{Bytes, Refusal};
 
-// What opening a block finds: a refusal, or where the payload starts and how many bytes it has.
-#[derive(Clone, Copy)]
-pub enum Opening {
-    Refused(Refusal),
-    Payload { start: usize, length: Bytes },
-}
-
-// The index of the first byte b, or the length where there is none.
-fn find(s: &[u8], b: u8) -> usize
-    ensures { result ≡ index_of b s.now }
-{
-    s.iter().position(|&x| x == b).unwrap_or(s.len())
-}
-
 // Open-ended: the first newline after `#0` is the last byte.
-#[tactic(auto, using(crate::proofs::Search::index_within))]
-fn open_ended(block: &[u8]) -> Opening
+#[tactic(auto, unfolding(crate::specs::Opening::ended_of, crate::specs::Opening::index_of, crate::specs::Opening::from))]
+fn open_ended(block: &[u8]) -> Result<Part, Refusal>
     requires { 2 ≤ length block.now }
     ensures { result ≡ ended_of block.now }
 {
-    let end = 2 + find(&block[2..], b'\n');
-    if end + 1 == block.len() {
-        return Opening::Payload {
+    let rest = &block[2..];
+    match rest.iter().position(|&byte| byte == b'\n') {
+        Some(length) if length + 1 == rest.len() => Ok(Part {
             start: 2,
-            length: Bytes(end - 2),
-        };
+            length: Bytes(length),
+        }),
+        _ => Err(Refusal::WrongEnd(2)),
     }
-    Opening::Refused(Refusal::wrong_end(2))
 }
 
 // Definite: as many bytes follow the header as it counts.
-fn open_counted(block: &[u8], start: usize, count: Bytes) -> Opening
-    requires { start ≤ length block.now }
-    ensures { result ≡ counted_of block.now start count.0 }
+#[tactic(auto, unfolding(crate::specs::Opening::counted_of, crate::specs::Opening::from))]
+fn open_counted(block: &[u8], part: Part) -> Result<Part, Refusal>
+    requires { part.start ≤ length block.now }
+    ensures { result ≡ counted_of block.now part.start part.length.0 }
 {
-    if count.0 == block.len() - start {
-        return Opening::Payload {
-            start,
-            length: count,
-        };
+    if part.length == Bytes(block.len() - part.start) {
+        Ok(part)
+    } else {
+        Err(Refusal::WrongEnd(part.start))
     }
-    Opening::Refused(Refusal::wrong_end(start))
 }
 
 // Opens a block (rows 1 to 3).
-pub fn open(block: &[u8]) -> Opening
+#[tactic(auto, using(crate::proofs::Reading::ended_long, crate::proofs::Reading::counted_long), unfolding(crate::specs::Opening::opening_of, crate::specs::Opening::opening_by))]
+pub fn open(block: &[u8]) -> Result<Part, Refusal>
     ensures { result ≡ opening_of block.now }
 {
-    let header = read_header(block);
-    match header {
-        Header::NoMark => Opening::Refused(Refusal::no_mark()),
-        Header::NoDigit(i) => Opening::Refused(Refusal::no_digit(i)),
+    match read_header(block)? {
         Header::OpenEnded => open_ended(block),
-        Header::Counted { start, length } => open_counted(block, start, length),
+        Header::Counted(part) => open_counted(block, part),
     }
 }
 
 // The part that opening found; empty, at the input's start, for a refusal.
-pub fn cut(block: &[u8], opening: Opening) -> &[u8]
+#[tactic(auto, using(crate::proofs::Ending::part_inside), unfolding(crate::specs::Opening::payload_of))]
+pub fn cut(block: &[u8], opening: Result<Part, Refusal>) -> &[u8]
     requires { opening ≡ opening_of block.now }
     ensures { result.now ≡ payload_of block.now }
 {
-    let Opening::Payload { start, length } = opening else {
-        return &block[..0];
-    };
-    let end = start + length.0;
-    &block[start..end]
+    match opening {
+        Ok(part) => part.of(block),
+        Err(_) => &block[..0],
+    }
 }
 
 // Opens a block and hands back its payload.

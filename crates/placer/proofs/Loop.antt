@@ -4,8 +4,7 @@
 use Prim.Native.Nat.{ℕ, suc, ◌+◌, ◌≤◌, ◌<◌}
 use mathlib.Core.Path.{◌≡◌, ◌∙◌}
 use mathlib.Core.List.{List}
-use native.Mathlib.Nat.{not-suc-le-zero, le_antisymm}
-use native.Mathlib.Numerals.{add-one}
+use native.Mathlib.Nat.{not-suc-le-zero}
 use native.Mathlib.Omega.{arith}
 use Rattle.units.specs.declared.Size.{Size}
 use Rattle.work.specs.Work.{at, END, CHANNEL, FROM, MIDDLE, Unchanged}
@@ -167,43 +166,54 @@ placed_after z v w n A rank r =
     let C : Covering z rank z.ranks w = A.covering rank r in
     placed_of_standing z rank C.covers w (same_input A.input n) (same_ranks n A.input r) C.standing
 
--- In the code's own terms: rank counts the ranks done, and rank + 1 is the one that is placed.
+-- In the code's own terms: the ranks before `rank` are done, and the table lies in the area where the loop began.
+pub record Before (z : Size) (rank : ℕ) (v w : List ℕ) : Type 0 where
+  pub input : Input z v
+  pub done : ℕ
+  pub is : rank ≡ suc done
+  pub most : done ≤ z.ranks
+  pub after : After z done v w
 
-module _ {z : Size} {rank : ℕ} {v w : List ℕ} (n : Input z v) (A : After z rank v w) where
-  pub enter_asks : {next : ℕ} → rank < z.ranks → next ≡ rank + 1 → Input z w × Lists z w × Room z next w × (1 ≤ next) × (next ≤ z.ranks)
-  enter_asks inside e = (same_input A.input n, A.lists, rw (e, add-one) A.room, omega arith, omega arith)
+module _ {z : Size} {rank : ℕ} {v w : List ℕ} (B : Before z rank v w) where
+  more : {x : List ℕ} → rank ≤ z.ranks → After z (suc B.done) v x → Before z (rank + 1) v x
+  more inside A = record { input = B.input; done = suc B.done; is = omega (arith, B.is); most = omega (arith, B.is); after = A }
 
-  module _ {x : List ℕ} (E : Entered z (rank + 1) w x) where
-    entered : Entered z (suc rank) w x
-    entered = rw add-one at E
+  pub enter_asks : rank ≤ z.ranks → Input z w × Lists z w × Room z rank w × (1 ≤ rank) × (rank ≤ z.ranks)
+  enter_asks inside = (same_input B.after.input B.input, B.after.lists, rw B.is B.after.room, omega (arith, B.is), inside)
+
+  module _ {x : List ℕ} (E : Entered z rank w x) where
+    entered : Entered z (suc B.done) w x
+    entered = rw B.is at E
 
     pub grow_asks : Input z x × Lists z x × Mates z x × Along z x × Sealed z 0 x
-    grow_asks = (entered_input n A entered, E.lists, entered_mates n A entered, entered_along n A entered, entered_sealed n A entered)
+    grow_asks =
+        let A = B.after in
+        (entered_input B.input A entered, E.lists, entered_mates B.input A entered, entered_along B.input A entered, entered_sealed B.input A entered)
 
-    pub turn_quiet : rank < z.ranks → Quiet z w x → After z (rank + 1) v x
-    turn_quiet inside q = rw add-one (after_quiet n A entered q.none_new inside)
+    pub turn_quiet : rank ≤ z.ranks → Quiet z w x → Before z (rank + 1) v x
+    turn_quiet inside q = more inside (after_quiet B.input B.after entered q.none_new (omega (arith, B.is)))
 
     module _ {y : List ℕ} (G : Grown z z.signals x y) where
       pub strike_asks : Input z y × Lists z y × Mates z y
-      strike_asks = (grown_input n A entered G, grown_lists n A entered G, G.mates)
+      strike_asks = (grown_input B.input B.after entered G, grown_lists B.input B.after entered G, G.mates)
 
-      pub turn_struck : {t : List ℕ} → rank < z.ranks → Struck z y t → After z (rank + 1) v t
-      turn_struck inside X = rw add-one (after_more n A entered G X inside)
+      pub turn_struck : {t : List ℕ} → rank ≤ z.ranks → Struck z y t → Before z (rank + 1) v t
+      turn_struck inside X = more inside (after_more B.input B.after entered G X (omega (arith, B.is)))
 
-      pub turn_everyone : {u : List ℕ} → Input z u → Prepared z u v → rank < z.ranks → Everyone z z.signals y → PlacedFrom z u y
+      pub turn_everyone : {u : List ℕ} → Input z u → Prepared z u v → rank ≤ z.ranks → Everyone z z.signals y → PlacedFrom z u y
       turn_everyone m p inside all =
           record {
-            table = unchanged_trans (table_grown n A entered G) p.input;
+            table = unchanged_trans (table_grown B.input B.after entered G) p.input;
             mates = G.mates;
-            placed = λ r h. placed_early n A entered G all.placed inside r (same_ranks m p.input h);
+            placed = λ r h. placed_early B.input B.after entered G all.placed (omega (arith, B.is)) r (same_ranks m p.input h);
           }
 
 -- all ranks are done
-pub turned : {z : Size} {rank : ℕ} {u v w : List ℕ} → Input z u → Prepared z u v → Input z v → After z rank v w → rank ≤ z.ranks → z.ranks ≤ rank
-    → PlacedFrom z u w
-turned {z} {rank} {u} {v} {w} m p n A most least =
+pub turned : {z : Size} {rank : ℕ} {u v w : List ℕ} → Input z u → Prepared z u v → Before z rank v w → z.ranks + 1 ≤ rank → PlacedFrom z u w
+turned {z} {u = u} {v} {w} m p B all =
+    let last : B.done ≡ z.ranks = omega (arith, B.is, B.most) in
     record {
-      table = unchanged_trans A.input p.input;
-      mates = A.mates;
-      placed = λ r h. placed_after z v w n (rw (le_antisymm most least) at A) r (same_ranks m p.input h);
+      table = unchanged_trans B.after.input p.input;
+      mates = B.after.mates;
+      placed = λ r h. placed_after z v w B.input (rw last at B.after) r (same_ranks m p.input h);
     }

@@ -17,9 +17,7 @@ pub fn place(w: &mut [u16], size: Size)
     ensures { PlacedFrom size w.old w.new }
 {
     prepare(w, size);
-    let mut rank = 0;
-    while rank < size.ranks {
-        rank += 1;
+    for rank in 1..=size.ranks {
         if enter(w, size, rank) {
             if grow(w, size) {
                 strike(w, size);

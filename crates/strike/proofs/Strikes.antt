@@ -1,23 +1,27 @@
--- Striking, put together: one law for each way through striking one signal (one_free, one_marked, one_covered) and through
+-- Striking, put together: one law for a signal that is covered (one_covered), one for a turn of each of
 -- the loops (struck_more, channels_more), and that both loops together have Struck. Leans on work's
 -- Area and State.
-use Prim.Native.Nat.{ℕ, suc, ◌+◌, ◌≤◌, ◌<◌}
+use Prim.Native.Nat.{ℕ, suc, ◌+◌, ◌-◌, ◌≤◌, ◌<◌}
 use mathlib.Core.Path.{◌≡◌, refl, ap, sym, ◌∙◌}
 use mathlib.Core.Bool.{Bool}
 use mathlib.Core.List.{List}
 use native.Mathlib.Decide.{dec_lt}
 use native.Mathlib.Omega.{arith}
 use borrow.Author.Count.{below_more}
+use lib.ListN.{length, take, drop}
+use Rattle.std.specs.Bool.{MatchBool}
+use Rattle.std.specs.List.{AllWithin}
+use Rattle.std.proofs.lemmas.Bool.{MatchBool-at_true}
 use Rattle.units.specs.declared.Size.{Size}
 use Rattle.units.specs.Limits.{most_signals, most_channels, most_pairs}
 use Rattle.work.specs.Work.{at, none, START, END, LIVE, CHANNEL, SHUT_SIGNAL, SHUT_CHANNEL, FROM, MIDDLE, Unchanged, Put}
 use Rattle.work.specs.Input.{Input}
 use Rattle.work.specs.State.{InList, Lists, Mates, Unmarked}
-use Rattle.work.proofs.Area.{put_other, put_below, put_above, unchanged_refl, unchanged_trans, unchanged_sym, unchanged_part, unchanged_at}
+use Rattle.work.proofs.Area.{region_length, region_at, put_other, put_below, put_above, unchanged_refl, unchanged_trans, unchanged_sym, unchanged_part, unchanged_at}
 use Rattle.work.proofs.Input.{same_input, same_start, same_listed, start_most}
 use Rattle.work.proofs.State.{same_in_list, same_mates, end_most, list_channel}
 use Rattle.strike.specs.Striking.{Covered, Struck}
-use Rattle.strike.specs.Inside.{FlagAfter, Spared, Untouched, Lessened, Thinned, HasList, ClearOf, StruckAt, StruckOne, Met, StruckSignal, StruckSignals, Strikable, StruckTo, StruckChannels}
+use Rattle.strike.specs.Inside.{Spared, Untouched, Lessened, Thinned, HasList, ClearOf, StruckAt, StruckOne, Met, StruckSignal, StruckSignals, Strikable, StruckTo, StruckChannels}
 
 -- What is spared and untouched
 
@@ -99,21 +103,6 @@ module _ {z : Size} {v : List ℕ} (n : Input z v) (l : Lists z v) where
     small : s < most_signals
     small = omega (arith, n.limits.few_signals)
 
-    uncovered : (Covered z v s → ⊥) → StruckOne z s v v
-    uncovered q =
-        record {
-          spared = spared_refl v;
-          here =
-              record {
-                shut = λ k. absurd (q k);
-                as_it_was = λ k. refl;
-                less = record { shorter = omega arith; order = l.order s h; only = λ c i. i };
-                struck = λ c i k. absurd (q k);
-                kept = λ c i k. i;
-              };
-          others = λ t m d. untouched_refl t v;
-        }
-
     -- The list is thinned, and then the flag put.
     module _ {u w : List ℕ} (t : Thinned z s v u) (p : Put u SHUT_SIGNAL s 1 w) where
       lists_stay : Unchanged 0 CHANNEL w u
@@ -159,27 +148,13 @@ module _ {z : Size} {v : List ℕ} (n : Input z v) (l : Lists z v) where
             others = flag_others;
           }
 
-    -- The signal sits on c, or c is none.
-    module _ (m : Mates z v) {c : ℕ} (sits : c ≡ at v CHANNEL s) where
-      pub one_free : none ≤ c → StruckOne z s v v
-      one_free q = uncovered (λ k. omega (arith, n.limits.few_channels, k.placed))
-
-      module _ (placed : c < none) where
-        one_channel : c < z.channels
-        one_channel = omega (arith, m.placed s h (λ e. omega arith))
-
-        module _ {mark : ℕ} (read : mark ≡ at v FROM c) where
-          pub one_marked : (mark ≡ none → ⊥) → StruckOne z s v v
-          one_marked q = uncovered (λ k. q (read ∙ ap (at v FROM) sits ∙ k.unmarked))
-
-          pub one_covered : {u w : List ℕ} → mark ≡ none → Thinned z s v u → Put u SHUT_SIGNAL s 1 w → StruckOne z s v w
-          one_covered q t p =
-              covered t p (record { placed = omega (arith, one_channel); unmarked = sym (ap (at v FROM) sits) ∙ sym read ∙ q })
+    -- The signal sits on channel c, which is not marked.
+    pub one_covered : Mates z v → {c mark : ℕ} {u w : List ℕ} → c ≡ at v CHANNEL s → (c ≡ none → ⊥) → mark ≡ at v FROM c → mark ≡ none
+        → Thinned z s v u → Put u SHUT_SIGNAL s 1 w → StruckOne z s v w
+    one_covered m sits placed read q t p =
+        covered t p (record { placed = m.placed s h (λ e. placed (sits ∙ e)); unmarked = sym (ap (at v FROM) sits) ∙ sym read ∙ q })
 
   -- All signals
-
-  signals_none : StruckSignals z 0 v v
-  signals_none = record { spared = spared_refl v; done = λ s m. absurd (omega arith); ahead = λ s m h. untouched_refl s v }
 
   module _ {w : List ℕ} {k : ℕ} (t : StruckSignals z k v w) where
     lessened : (s : ℕ) → s < z.signals → Lessened s v w
@@ -270,7 +245,17 @@ module _ {z : Size} {v : List ℕ} (n : Input z v) (l : Lists z v) where
                 untouched_trans t.spared.input (small h) (t.ahead s (omega arith) h) (o.others s h (λ e. omega arith));
           }
 
--- What striking meets, where its channels were looked through for marks
+-- What is answered of the marks, cut out of the area, is said of the area,
+pub clear_of : (n : ℕ) (w : List ℕ) (No : Type 0) {r : Bool} → FROM + n ≤ length w
+    → MatchBool r (AllWithin (λ x. x ≡ none) (take (FROM + n - FROM) (drop FROM w)) 0 (length (take (FROM + n - FROM) (drop FROM w)))) No → ClearOf n r w
+clear_of n w other l k =
+    record {
+      each = λ e c h.
+          sym (region_at w FROM (FROM + n - FROM) c (omega arith))
+          ∙ MatchBool-at_true _ _ e k c 0 (omega arith) (omega (arith, region_length w FROM (FROM + n - FROM) (omega arith)));
+    }
+
+-- and so of what striking meets, where its channels were looked through for marks.
 pub met_by : {z : Size} {clear : Bool} {v : List ℕ} → Input z v → Lists z v → Mates z v → ClearOf z.channels clear v → Met z clear v
 met_by n l m k = record { input = n; lists = l; mates = m; unmarked = λ e. record { each = k.each e } }
 
@@ -285,9 +270,6 @@ met_stays {z} m t =
     }
 
 -- so one signal after the other is struck, whatever the size.
-pub struck_none : (clear : Bool) (v : List ℕ) → StruckTo 0 clear v v
-struck_none clear v = record { each = λ z m l. signals_none m.input m.lists }
-
 pub struck_more : {k : ℕ} {clear : Bool} {v w x : List ℕ} → StruckTo k clear v w → StruckSignal k clear w x → StruckTo (k + 1) clear v x
 struck_more {k} {v = v} {w = w} t o =
     record {
@@ -304,20 +286,14 @@ module _ {n k : ℕ} {clear : Bool} {v w : List ℕ} (a : Strikable n clear v) (
   pub next_list : k < n → HasList k w
   next_list h =
       let m = met_stays a.met struck_some in
-      record { size = a.size; input = m.input; lists = m.lists; inside = omega (arith, a.most) }
+      record { size = a.size; input = m.input; lists = m.lists; mates = m.mates; inside = omega (arith, a.most) }
 
 -- The channels
 
-pub channels_none : (v : List ℕ) → StruckChannels 0 v v
-channels_none v =
-    record {
-      below = unchanged_refl _ _ v;
-      cleared = λ c l. absurd (omega arith);
-      shut = λ c l. absurd (omega arith);
-      as_it_was = λ c l. absurd (omega arith);
-      ahead_mark = λ c l. refl;
-      ahead_flag = λ c l m. refl;
-    }
+-- What a channel's flag becomes, by its mark.
+pub record FlagAfter (mark flag r : ℕ) : Type 0 where
+  pub unmarked : mark ≡ none → r ≡ flag
+  pub marked : (mark ≡ none → ⊥) → r ≡ 1
 
 module _ {v w u x : List ℕ} {n mark flag after : ℕ} (t : StruckChannels n v w) (few : n < most_channels) (read : mark ≡ at w FROM n)
     (read-flag : flag ≡ at w SHUT_CHANNEL n) (a : FlagAfter mark flag after) (p : Put w SHUT_CHANNEL n after u) (r : Put u FROM n none x) where

@@ -6,15 +6,16 @@ use mathlib.Core.Logic.{◌⊎◌, inl, inr, ⊎_elim}
 use mathlib.Core.List.{List}
 use native.Mathlib.Decide.{dec_le, dec_lt, ℕ_discrete}
 use native.Mathlib.Omega.{arith}
+use lib.ListN.{length}
 use Rattle.units.specs.declared.Size.{Size}
 use Rattle.units.specs.Limits.{most_channels, most_pairs}
-use Rattle.work.specs.Work.{at, none, START, END, LIVE, CHANNEL, SHUT_SIGNAL, FROM, MIDDLE, WHOLE, Unchanged, Put}
+use Rattle.work.specs.Work.{at, none, NUMBERS, START, END, LIVE, CHANNEL, SHUT_SIGNAL, FROM, MIDDLE, WHOLE, Unchanged, Put}
 use Rattle.work.specs.Input.{Input}
 use Rattle.work.specs.State.{InList, Lists}
-use Rattle.work.proofs.Area.{put_other, put_below, put_above, unchanged_refl, unchanged_trans, unchanged_sym, unchanged_part, unchanged_at}
+use Rattle.work.proofs.Area.{put_other, put_below, put_above, unchanged_trans, unchanged_sym, unchanged_part, unchanged_at}
 use Rattle.work.proofs.Input.{start_most, rooms_apart}
 use Rattle.work.proofs.State.{end_most, list_channel}
-use Rattle.strike.specs.Inside.{Untouched, Thinned}
+use Rattle.strike.specs.Inside.{HasList, Untouched, Thinned}
 
 -- Channel c stands in a slot from a up to b.
 pub record InSlots (w : List ℕ) (a b c : ℕ) : Type 0 where
@@ -55,19 +56,6 @@ pub record Thinning (s : ℕ) (v w : List ℕ) (k kept : ℕ) : Type 0 where
   pub only : (c : ℕ) → InSlots w (at v START s) kept c → InSlots v (at v START s) k c
   pub unmarked : (c : ℕ) → InSlots w (at v START s) kept c → at v FROM c ≡ none
   pub found : (c : ℕ) → InSlots v (at v START s) k c → at v FROM c ≡ none → InSlots w (at v START s) kept c
-
-pub thinning_none : (s : ℕ) (v : List ℕ) {k : ℕ} → k ≡ at v START s → at v START s ≤ at v END s → Thinning s v v k k
-thinning_none s v {k} e l =
-    record {
-      start = omega arith;
-      behind = omega arith;
-      end = omega arith;
-      below = unchanged_refl _ _ v;
-      above = unchanged_refl _ _ v;
-      only = λ c i. i;
-      unmarked = λ c i. absurd (omega (arith, i.from, i.below));
-      found = λ c i q. i;
-    }
 
 module _ {z : Size} {s : ℕ} {v : List ℕ} (n : Input z v) (l : Lists z v) (h : s < z.signals) {end : ℕ} (ends : end ≡ at v END s) where
   few : at v END s ≤ most_pairs
@@ -186,3 +174,13 @@ module _ {z : Size} {s : ℕ} {v : List ℕ} (n : Input z v) (l : Lists z v) (h 
               slots_list (t.found c (record { position = i.position; from = i.from; below = omega (arith, i.below); is = i.is }) u);
           flag = unchanged_at rest SHUT_SIGNAL s (omega arith) (omega (arith, h, n.limits.few_signals));
         }
+
+-- What a turn's accesses ask, by the size that the area fits.
+module _ {s : ℕ} {v w : List ℕ} {k kept end : ℕ} (h : HasList s v) (ends : end ≡ at v END s) (t : Thinning s v w k kept) (more : k < end) where
+  pub slot_bounds : (NUMBERS ≤ length w) × (k < most_pairs) × (kept < most_pairs)
+  slot_bounds =
+      let few = end_most h.input h.lists s h.inside in
+      (omega (arith, h.input.room, t.above.size), omega (arith, few), omega (arith, few, t.behind))
+
+  pub mark_bounds : {c : ℕ} → c ≡ at w LIVE k → (NUMBERS ≤ length w) × (c < most_channels)
+  mark_bounds read = (slot_bounds.0, thinning_channel h.input h.lists h.inside ends t more read)

@@ -35,20 +35,17 @@ pub record Thinned (z : Size) (s : ℕ) (v w : List ℕ) : Type 0 where
   pub kept : (c : ℕ) → InList v s c → at v FROM c ≡ none → InList w s c
   pub flag : at w SHUT_SIGNAL s ≡ at v SHUT_SIGNAL s
 
--- Signal s has a list, in a table of some size.
+-- Signal s has a list, in a table of some size with its mates.
 pub record HasList (s : ℕ) (w : List ℕ) : Type 0 where
   pub size : Size
   pub input : Input size w
   pub lists : Lists size w
+  pub mates : Mates size w
   pub inside : s < size.signals
 
--- The list of signal s is thinned, whatever the table's size is;
+-- The list of signal s is thinned, whatever the table's size is.
 pub record ThinnedList (s : ℕ) (v w : List ℕ) : Type 0 where
   pub each : (z : Size) → Input z v → Lists z v → s < z.signals → Thinned z s v w
-
--- and so it is without going through it, where `clear` says rightly that no channel is marked.
-pub record ThinnedUnless (clear : Bool) (s : ℕ) (v w : List ℕ) : Type 0 where
-  pub each : (z : Size) → Input z v → Lists z v → s < z.signals → (clear ≡ true → Unmarked z v) → Thinned z s v w
 
 -- Where r is true none of the first n channels is marked.
 pub record ClearOf (n : ℕ) (r : Bool) (w : List ℕ) : Type 0 where
@@ -94,11 +91,6 @@ pub record Strikable (n : ℕ) (clear : Bool) (w : List ℕ) : Type 0 where
 -- and they are struck, whatever the table's size is.
 pub record StruckTo (n : ℕ) (clear : Bool) (v w : List ℕ) : Type 0 where
   pub each : (z : Size) → Met z clear v → n ≤ z.signals → StruckSignals z n v w
-
--- What a channel's flag becomes, by its mark.
-pub record FlagAfter (mark flag r : ℕ) : Type 0 where
-  pub unmarked : mark ≡ none → r ≡ flag
-  pub marked : (mark ≡ none → ⊥) → r ≡ 1
 
 -- Of the first n channels the marked ones are shut and the marks gone, and nothing else is changed.
 pub record StruckChannels (n : ℕ) (v w : List ℕ) : Type 0 where

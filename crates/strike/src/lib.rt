@@ -1,4 +1,5 @@
-// Striking: the cover that the failed searches of a rank leave is read off the marks. specs/Striking says what it promises.
+// Striking: the cover that the failed searches of a rank leave is read off the marks. specs/Striking says what it promises. The loops go
+// through indices: each turn writes the area that it reads, which an iterator would hold borrowed.
 #![tactic(auto)]
 
 ghost use Rattle.std.specs.Prelude.{◌≤◌, ◌<◌, length};
@@ -6,7 +7,7 @@ ghost use Rattle.units.specs.Limits.{most_channels};
 ghost use Rattle.work.specs.Input.{Input};
 ghost use Rattle.work.specs.State.{Lists, Mates};
 ghost use Rattle.work.specs.Work.{NUMBERS};
-ghost use Rattle.strike.specs.Inside.{ClearOf, FlagAfter, HasList, Strikable, StruckChannels, StruckSignal, StruckTo, ThinnedList, ThinnedUnless};
+ghost use Rattle.strike.specs.Inside.{ClearOf, HasList, Strikable, StruckChannels, StruckSignal, StruckTo, ThinnedList};
 ghost use Rattle.strike.specs.Striking.{Struck};
 
 use units::Size;
@@ -28,49 +29,33 @@ fn is_clear(w: &[u16], channels: usize) -> bool
     requires { (NUMBERS ≤ length w.now) × (channels ≤ most_channels) }
     ensures { ClearOf channels result w.now }
 {
-    let mut c = 0;
-    while c < channels {
-        if get(w, FROM, c) != NONE {
-            return false;
-        }
-        c += 1;
-    }
-    true
+    w[FROM..FROM + channels]
+        .iter()
+        .all(|&mark| usize::from(mark) == NONE)
 }
 
+// `clear` is what is_clear found: the marks are looked through once, and not for each signal.
 fn strike_signals(w: &mut [u16], signals: usize, clear: bool)
     requires { Strikable signals clear w.old }
     ensures { StruckTo signals clear w.old w.new }
 {
-    let mut s = 0;
-    while s < signals {
+    for s in 0..signals {
         strike_signal(w, s, clear);
-        s += 1;
     }
 }
 
-// One signal: where it sits on an unmarked channel its list is thinned and it is shut.
+// One signal: where it sits on an unmarked channel its list is thinned, unless no channel is marked, and it is shut.
 fn strike_signal(w: &mut [u16], s: usize, clear: bool)
     requires { HasList s w.old }
     ensures { StruckSignal s clear w.old w.new }
 {
     let c = get(w, CHANNEL, s);
-    if c < NONE {
-        if get(w, FROM, c) == NONE {
-            thin_unless(clear, w, s);
-            put(w, SHUT_SIGNAL, s, 1);
+    if c != NONE && get(w, FROM, c) == NONE {
+        if !clear {
+            thin(w, s);
         }
+        put(w, SHUT_SIGNAL, s, 1);
     }
-}
-
-fn thin_unless(clear: bool, w: &mut [u16], s: usize)
-    requires { HasList s w.old }
-    ensures { ThinnedUnless clear s w.old w.new }
-{
-    if clear {
-        return;
-    }
-    thin(w, s);
 }
 
 // Keeps of a signal's list the channels that are not marked.
@@ -78,39 +63,29 @@ fn thin(w: &mut [u16], s: usize)
     requires { HasList s w.old }
     ensures { ThinnedList s w.old w.new }
 {
+    let start = get(w, START, s);
     let end = get(w, END, s);
-    let mut k = get(w, START, s);
-    let mut kept = k;
-    while k < end {
+    let mut kept = start;
+    for k in start..end {
         let c = get(w, LIVE, k);
         if get(w, FROM, c) == NONE {
             put(w, LIVE, kept, c);
             kept += 1;
         }
-        k += 1;
     }
     put(w, END, s, kept);
 }
 
-// A channel's flag once it is struck; what is not none is taken for a mark.
-fn flag_after(mark: usize, flag: usize) -> usize
-    requires { flag < 65536 }
-    ensures { FlagAfter mark flag result × (result < 65536) }
-{
-    if mark == NONE { flag } else { 1 }
-}
-
-// Every channel, marked or not: with no test of the marks, which cannot be foretold, the compiler takes many channels at once.
+// What is not none is taken for a mark. Flag and mark are stored at every channel, marked or not: with no store that hangs on a mark,
+// which cannot be foretold, the compiler takes many channels at once.
 fn strike_channels(w: &mut [u16], channels: usize)
     requires { (NUMBERS ≤ length w.old) × (channels ≤ most_channels) }
     ensures { StruckChannels channels w.old w.new }
 {
-    let mut c = 0;
-    while c < channels {
-        let mark = get(w, FROM, c);
+    for c in 0..channels {
         let flag = get(w, SHUT_CHANNEL, c);
-        put(w, SHUT_CHANNEL, c, flag_after(mark, flag));
+        let flag = if get(w, FROM, c) == NONE { flag } else { 1 };
+        put(w, SHUT_CHANNEL, c, flag);
         put(w, FROM, c, NONE);
-        c += 1;
     }
 }

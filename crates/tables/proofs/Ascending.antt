@@ -30,7 +30,8 @@ above_apart (by_channel e h) s c = omega arith
 
 -- ---- every entry
 
--- Every entry of a list has the property P.
+-- Every entry of a list has the property P. std's `All` says it as a function: this is data, so that proofs match on it, and P and
+-- the list are inferred wherever it is used.
 pub data Each (P : Entry → Type 0) : List Entry → Type 0 where
   none : Each P []
   next : {e : Entry} {es : List Entry} → P e → Each P es → Each P (e ∷ es)

@@ -12,7 +12,7 @@ use lib.Seq.{append_snoc, ext_get_or}
 use Rattle.fields.specs.Fields.{Field, bit_at, number, field_at, bits_in, packed, Holds}
 use Rattle.fields.specs.Fields.Holds.{holds_none, holds_next}
 use Rattle.fields.proofs.Bits.{bit_past_end, fields_determine}
-use Rattle.fields.proofs.Packing.{length-packed, packed_bytes, packed_fill, packed_reads_back, packed_unique}
+use Rattle.fields.proofs.Packing.{bits_in_append, length-packed, packed_bytes, packed_fill, packed_reads_back, packed_unique}
 use Rattle.plans.specs.Tables.{Entry, table_of}
 use Rattle.tables.specs.Payload.{signals_in, channels_in, ranks_in, pairs_in, size_in, entry_bit, entry_in, entries_in, table_in, table_fields}
 use Rattle.tables.specs.Payload.{payload_length, fill_in, entry_fields, payload_for}
@@ -28,16 +28,12 @@ data Fit : List Field → Type 0 where
   fit_none : Fit []
   fit_next : {f : Field} {fs : List Field} → f.value < 2 ^ f.width → Fit fs → Fit (f ∷ fs)
 
-bits_snoc : (pre : List Field) (f : Field) → bits_in (pre ++ (f ∷ [])) ≡ bits_in pre + f.width
-unfolding bits_in
-bits_snoc [] f = omega arith
-bits_snoc (g ∷ pre) f = omega (arith, bits_snoc pre f)
-
 packed_holds : (pre : List Field) {fs : List Field} → Fit fs → Holds (packed (pre ++ fs)) (bits_in pre) fs
+unfolding bits_in
 packed_holds pre fit_none = holds_none
 packed_holds pre (fit_next {f} {fs} h hs) =
     holds_next (packed_reads_back pre f fs h)
-    (rw (append_snoc pre f fs, bits_snoc pre f) at (packed_holds (pre ++ (f ∷ [])) hs))
+    (rw (append_snoc pre f fs, bits_in_append pre (f ∷ []), add-zero f.width) at (packed_holds (pre ++ (f ∷ [])) hs))
 
 field_zero : (s : List ℕ) (at w : ℕ) → ((k : ℕ) → at ≤ k → bit_at s k ≡ 0) → field_at s at w ≡ 0
 unfolding field_at number

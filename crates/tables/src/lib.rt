@@ -3,20 +3,20 @@
 // from others.
 #![tactic(auto)]
 
-ghost use Rattle.std.specs.Prelude.{◌≡◌, ◌+◌, ◌*◌, ◌/◌, ◌%◌, ◌≤◌};
+ghost use Rattle.std.specs.Prelude.{◌≡◌, ◌+◌, ◌*◌, ◌≤◌};
 ghost use Rattle.tables.specs.Payload.{size_in, entry_bits};
 
 use units::{Entries, Size};
 
-// Reads the head: all of its 32 bits at once.
+// Reads the head, all of its 32 bits at once: signals (8), channels (8), ranks (4), pairs (12).
 pub fn size_of(payload: &[u8]) -> Size
     ensures { result ≡ size_in payload.now }
 {
     let bits = fields::read(payload, 0, 32) as usize;
     Size {
-        signals: bits / 16777216,
-        channels: bits / 65536 % 256,
-        ranks: bits / 4096 % 16,
+        signals: bits >> 24,
+        channels: (bits >> 16) % 256,
+        ranks: (bits >> 12) % 16,
         pairs: Entries((bits % 4096) as u16),
     }
 }
@@ -29,11 +29,12 @@ pub fn entry_at(payload: &[u8], i: usize) -> usize
     fields::read(payload, 32 + 20 * i, 20) as usize
 }
 
-// The entries 2 · two and 2 · two + 1 as one number of 40 bits. Before them stand the head and an even number of entries, so
-// they are five whole bytes.
-pub fn two_entries(payload: &[u8], two: usize) -> usize
+// The 20 bits of entry 2 · two, and those of entry 2 · two + 1. Before them stand the head and an even number of entries, so
+// the two are five whole bytes.
+pub fn two_entries(payload: &[u8], two: usize) -> (usize, usize)
     requires { two ≤ 32767 }
-    ensures { (result / 1048576 ≡ entry_bits payload.now (2 * two)) × (result % 1048576 ≡ entry_bits payload.now (2 * two + 1)) }
+    ensures { (result.0 ≡ entry_bits payload.now (2 * two)) × (result.1 ≡ entry_bits payload.now (2 * two + 1)) }
 {
-    fields::five_bytes(payload, 4 + 5 * two) as usize
+    let both = fields::five_bytes(payload, 4 + 5 * two) as usize;
+    (both >> 20, both % (1 << 20))
 }

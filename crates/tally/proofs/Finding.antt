@@ -1,34 +1,22 @@
--- Looking for the entry of a pair: it stands where the search is or behind (Ahead, ahead_more), so the search stays among the entries
--- (ahead_inside), and where it ends it has found the rank (rank_found).
+-- Looking for the entry of a pair: it stands where the search is or behind (Ahead), so the search stays among the entries
+-- (ahead_inside, ahead_bounds), and where it ends it has found the rank (rank_found).
 use Prim.Native.Nat.{ℕ, ◌+◌, ◌*◌, ◌%◌, ◌≤◌, ◌<◌}
 use mathlib.Core.Path.{◌≡◌}
 use mathlib.Core.List.{List}
-use native.Mathlib.Decide.{ℕ_discrete}
 use native.Mathlib.Omega.{arith}
+use lib.ListN.{length}
 use Rattle.units.specs.declared.Size.{Size}
-use Rattle.work.specs.Work.{at, PAIR, LINK, START, signal_at, channel_at, rank_at}
+use Rattle.units.specs.Limits.{most_pairs}
+use Rattle.work.specs.Work.{at, NUMBERS, PAIR, LINK, START, signal_at, channel_at, rank_at}
 use Rattle.work.specs.Input.{Input, Listed}
-use Rattle.tally.specs.Inside.{RankOf}
+use Rattle.tally.specs.Inside.{Findable, RankOf}
 
 -- From the first entry on the pair stands at e or behind it.
 pub record Ahead (w : List ℕ) (pair first e : ℕ) : Type 0 where
   pub each : (t : ℕ) → first ≤ t → at w PAIR t ≡ pair → e ≤ t
 
-pub ahead_none : (w : List ℕ) (pair first : ℕ) → Ahead w pair first first
-ahead_none w pair first = record { each = λ t l q. l }
-
-pub ahead_more : {w : List ℕ} {pair first e : ℕ} → Ahead w pair first e → (at w PAIR e ≡ pair → ⊥) → Ahead w pair first (e + 1)
-ahead_more {w} {pair} {first} {e} p other = record { each = λ t l q. pick t l q (ℕ_discrete e t) }
-  where
-    pick : (t : ℕ) → first ≤ t → at w PAIR t ≡ pair → Dec (e ≡ t) → e + 1 ≤ t
-    pick t l q (yes h) = absurd (other (rw h q))
-    pick t l q (no h) = omega (arith, p.each t l q)
-
--- a listed pair is one of the table's signals and channels
+-- the channel of a listed pair is one of the table's
 module _ {z : Size} {w : List ℕ} {s c : ℕ} (n : Input z w) (here : Listed z w s c) where
-  pub listed_signal : s < 200
-  listed_signal = omega (arith, n.signal here.entry here.inside, here.signal, n.limits.few_signals)
-
   pub listed_channel : c < 200
   listed_channel = omega (arith, n.channel here.entry here.inside, here.channel, n.limits.few_channels)
 
@@ -53,3 +41,8 @@ module _ {z : Size} {w : List ℕ} {s c first e : ℕ} (n : Input z w) (here : L
         listed = record { entry = e; inside = ahead_inside; signal = omega arith; channel = omega arith };
         is = link;
       }
+
+-- What stands there can be read.
+pub ahead_bounds : {w : List ℕ} {s c first e : ℕ} → Findable w s c → first ≡ at w START s → Ahead w (256 * s + c) first e
+    → (NUMBERS ≤ length w) × (e < most_pairs)
+ahead_bounds n start p = (n.input.room, omega (arith, n.input.limits.few_pairs, ahead_inside n.input n.listed start p))

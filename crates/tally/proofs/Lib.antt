@@ -1,6 +1,5 @@
--- Why tallying keeps its promise: the counts begin at 0 (Zeroing), a pair's rank is found (Finding) and makes a place (PlaceRank), one
+-- Why tallying keeps its promise: a pair's rank is found (Finding) and makes a place (PlaceRank), one
 -- signal is tallied (Recording), then all (Tallies). Which plans can be tallied (Placeable), and what a caller reads (Regions).
-pub mod Zeroing
 pub mod Finding
 pub mod PlaceRank
 pub mod Recording

@@ -11,7 +11,7 @@ use Rattle.work.specs.Work.{at, none, CHANNEL, PLACE, COUNT, WHOLE, Put}
 use Rattle.work.specs.Input.{Listed}
 use Rattle.work.proofs.Area.{put_other, put_below, unchanged_trans}
 use Rattle.tally.specs.Inside.{RankOf, RankFound, PlaceOf, SignalOf, TalliedOne}
-use Rattle.tally.proofs.PlaceRank.{rank_small, place_rank}
+use Rattle.tally.proofs.PlaceRank.{place_rank}
 
 module _ {z : Size} {s c : ℕ} {v : List ℕ} (n : SignalOf z s v) (sits : c ≡ at v CHANNEL s) where
   few : s < 200
@@ -46,10 +46,6 @@ module _ {z : Size} {s c : ℕ} {v : List ℕ} (n : SignalOf z s v) (sits : c �
     pub within : r ≤ z.ranks
     unfolding pair
     within = omega (arith, rank_of_pair.is, n.input.within pair.entry pair.inside)
-
-    pub place_fits : 16 * c + r < 65536
-    place_fits =
-        omega (arith, rank_small rank_of_pair, pair.channel, n.input.channel pair.entry pair.inside, n.input.limits.few_channels)
 
     module _ {k y : ℕ} {w : List ℕ} (p : Put v PLACE s y w) (count : k ≡ at w COUNT (r - 1)) where
       old_count : (i : ℕ) → at w COUNT i ≡ at v COUNT i

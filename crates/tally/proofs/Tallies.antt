@@ -12,14 +12,14 @@ use Rattle.plans.specs.Numbers.{same, sum}
 use Rattle.plans.specs.Plan.{placed, line}
 use Rattle.plans.proofs.Sums.{same_no, same_bit, by_under, sum_ext, sum_at_most}
 use Rattle.units.specs.declared.Size.{Size}
-use Rattle.work.specs.Work.{at, none, CHANNEL, SHUT_SIGNAL, PLACE, COUNT, MIDDLE, WHOLE, Unchanged}
+use Rattle.work.specs.Work.{at, none, CHANNEL, SHUT_SIGNAL, PLACE, COUNT, MIDDLE, WHOLE, Unchanged, Fills}
 use Rattle.work.specs.Input.{Input}
 use Rattle.work.specs.State.{Mates}
 use Rattle.work.specs.Ranks.{table_with, places, Ranks}
-use Rattle.work.proofs.Area.{unchanged_trans, unchanged_part, unchanged_sym}
+use Rattle.work.proofs.Area.{fill_below, unchanged_trans, unchanged_part, unchanged_sym}
 use Rattle.work.proofs.Input.{same_input, same_listed}
 use Rattle.work.proofs.State.{same_sits, same_mates}
-use Rattle.tally.specs.Inside.{PlaceOf, SignalOf, SignalTallied, Tallyable, TalliedOne, Zeroed}
+use Rattle.tally.specs.Inside.{PlaceOf, SignalOf, SignalTallied, Tallyable, TalliedOne}
 use Rattle.tally.specs.Tallying.{Placeable, Tallied}
 use Rattle.tally.proofs.PlaceRank.{place_rank, same_place, rank_is}
 
@@ -33,17 +33,17 @@ pub record Tallying (z : Size) (n : ℕ) (v w : List ℕ) : Type 0 where
   pub unplaced : (t : ℕ) → t < n → at v CHANNEL t ≡ none → at w PLACE t ≡ 16 * none
   pub counts : (i : ℕ) → i < z.ranks → at w COUNT i ≡ sum n (λ t. same (at w PLACE t % 16) (suc i))
 
-pub tallying_none : {z : Size} {v w : List ℕ} → Input z v → Mates z v → Placeable z v → Zeroed z.ranks v w → Tallying z 0 v w
+pub tallying_none : {z : Size} {v w : List ℕ} → Input z v → Mates z v → Placeable z v → Fills COUNT z.ranks 0 v w → Tallying z 0 v w
 unfolding sum
 tallying_none n m P h =
     record {
       input = n;
       mates = m;
       placeable = P;
-      below = unchanged_part 0 WHOLE (omega arith) (omega arith) h.below;
+      below = fill_below h 0 WHOLE (omega arith);
       placed = λ t l. absurd (not-suc-le-zero l);
       unplaced = λ t l. absurd (not-suc-le-zero l);
-      counts = h.zero;
+      counts = h.here;
     }
 
 module _ {z : Size} {s : ℕ} {v w : List ℕ} (T : Tallying z s v w) (l : s < z.signals) where

@@ -26,13 +26,6 @@ pub record RankOf (z : Size) (w : List ℕ) (s c r : ℕ) : Type 0 where
 pub record RankFound (w : List ℕ) (s c r : ℕ) : Type 0 where
   pub each : (z : Size) → Input z w → Listed z w s c → RankOf z w s c r
 
--- The counts begin at 0
-
--- The first n counts are 0, and nothing below the counts is changed.
-pub record Zeroed (n : ℕ) (v w : List ℕ) : Type 0 where
-  pub below : Unchanged 0 COUNT w v
-  pub zero : (i : ℕ) → i < n → at w COUNT i ≡ 0
-
 -- One signal
 
 -- The area holds a table and a plan of it that can be tallied, and s is one of its signals.

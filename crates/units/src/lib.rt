@@ -7,22 +7,31 @@ ghost use Rattle.units.specs.Units.{bytes_of};
 
 mod refusals;
 
-pub use refusals::Refusal;
+pub use refusals::{Refusal, Status};
 
 // So many bytes. A header counts bytes and takes nothing else.
-#[derive(Clone, Copy)]
+#[derive(Clone, Copy, Debug, PartialEq, Eq)]
 pub struct Bytes(pub usize);
 
 // So many entries of a table. A table's head counts them in 12 bits.
-#[derive(Clone, Copy)]
+#[derive(Clone, Copy, Debug, PartialEq, Eq)]
 pub struct Entries(pub u16);
 
 // The one way from entries to bytes: how many bytes so many entries take.
-pub fn bytes_of(entries: Entries) -> Bytes
-    ensures { result.0 ≡ bytes_of entries.0 }
-{
-    let n = entries.0 as usize;
-    Bytes((5 * n + 1) / 2)
+impl From<Entries> for Bytes {
+    ghost from_gives = { λ entries bytes. bytes.0 ≡ bytes_of entries.0 };
+
+    fn from(entries: Entries) -> Bytes {
+        Bytes((5 * usize::from(entries)).div_ceil(2))
+    }
+}
+
+impl From<Entries> for usize {
+    ghost from_gives = { λ entries n. n ≡ entries.0 };
+
+    fn from(entries: Entries) -> usize {
+        usize::from(entries.0)
+    }
 }
 
 // The most signals, channels, ranks and pairs that a table may have.
@@ -35,7 +44,7 @@ pub const MOST_RANKS: usize = 15;
 pub const MOST_PAIRS: usize = 3000;
 
 // How many signals, channels, ranks and pairs a table has.
-#[derive(Clone, Copy)]
+#[derive(Clone, Copy, Debug, PartialEq, Eq)]
 pub struct Size {
     pub signals: usize,
     pub channels: usize,

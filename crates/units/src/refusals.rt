@@ -1,114 +1,117 @@
-// A refusal, and the one page of code that gives its number and its place for every row; specs/Refusals says the same.
+// Why an input is refused, and the one page of code that gives each refusal its number and its place; specs/Refusals says the same.
 ghost use Rattle.std.specs.Prelude.{◌≡◌};
-ghost use Rattle.units.specs.Refusals.{refuse, success, no_mark, no_digit, wrong_end, short, too_large, no_line, wrong_length, too_long, dirty_fill, not_in_table, not_above, no_room, no_work};
+ghost use Rattle.units.specs.Refusals.{number_of, place_of, refused_with, success, status_of};
 
-// A refusal's number in document 01's table, and its place; 0 and 0 is success.
+use std::error::Error;
+use std::fmt;
+
+// A refusal: which row of the table of refusals is met, and what the row speaks of.
+#[derive(Clone, Copy, Debug, PartialEq, Eq)]
+pub enum Refusal {
+    // Row 1.
+    NoMark,
+    // Row 2, for want of a digit at this byte.
+    NoDigit(usize),
+    // Row 3, for a block whose payload starts at this byte.
+    WrongEnd(usize),
+    // Row 4.
+    Short,
+    // Row 5, for a table and for a line.
+    TooLarge,
+    NoLine,
+    // Row 6, for a table and for a payload to be framed.
+    WrongLength,
+    TooLong,
+    // Row 7.
+    DirtyFill,
+    // Rows 8 and 9, for this entry.
+    NotInTable(usize),
+    NotAbove(usize),
+    // Row 10.
+    NoRoom,
+    // Row 11.
+    NoWork,
+}
+
+impl Refusal {
+    // The number of its row.
+    pub fn number(self) -> u32
+        ensures { result ≡ number_of self }
+    {
+        match self {
+            Refusal::NoMark => 1,
+            Refusal::NoDigit(_) => 2,
+            Refusal::WrongEnd(_) => 3,
+            Refusal::Short => 4,
+            Refusal::TooLarge => 5,
+            Refusal::NoLine => 5,
+            Refusal::WrongLength => 6,
+            Refusal::TooLong => 6,
+            Refusal::DirtyFill => 7,
+            Refusal::NotInTable(_) => 8,
+            Refusal::NotAbove(_) => 9,
+            Refusal::NoRoom => 10,
+            Refusal::NoWork => 11,
+        }
+    }
+
+    // Where: the entry's index for rows 8 and 9, and 0 for all others.
+    pub fn place(self) -> usize
+        ensures { result ≡ place_of self }
+    {
+        match self {
+            Refusal::NotInTable(i) => i,
+            Refusal::NotAbove(i) => i,
+            _ => 0,
+        }
+    }
+}
+
+impl fmt::Display for Refusal {
+    fn fmt<W: fmt::Write>(&self, f: &mut fmt::Formatter<W>) -> fmt::Result {
+        write!(f, "refused {} at {}", self.number(), self.place())
+    }
+}
+
+impl Error for Refusal {}
+
+// How an answer is told in C: a refusal's number and place, or 0 and 0 for success.
 #[repr(C)]
-#[derive(Clone, Copy)]
-pub struct Refusal {
+#[derive(Clone, Copy, Debug, PartialEq, Eq)]
+pub struct Status {
     pub number: u32,
     pub place: usize,
 }
 
-fn refuse(number: u32, place: usize) -> Refusal
-    ensures { result ≡ refuse number place }
-{
-    Refusal { number, place }
+impl From<Refusal> for Status {
+    ghost from_gives = { λ refusal status. status ≡ refused_with refusal };
+
+    fn from(refusal: Refusal) -> Status {
+        Status {
+            number: refusal.number(),
+            place: refusal.place(),
+        }
+    }
 }
 
-impl Refusal {
+impl Status {
     // Nothing is refused.
     pub fn success() -> Self
         ensures { result ≡ success }
     {
-        refuse(0, 0)
+        Status {
+            number: 0,
+            place: 0,
+        }
     }
 
-    // Row 1.
-    pub fn no_mark() -> Self
-        ensures { result ≡ no_mark }
+    // What is told of a step's answer.
+    pub fn of<T>(answer: &Result<T, Refusal>) -> Self
+        ensures { result ≡ status_of answer.now }
     {
-        refuse(1, 0)
-    }
-
-    // Row 2, for want of a digit at byte i.
-    pub fn no_digit(i: usize) -> Self
-        ensures { result ≡ no_digit i }
-    {
-        refuse(2, 0)
-    }
-
-    // Row 3, for a block whose payload starts at byte `start`.
-    pub fn wrong_end(start: usize) -> Self
-        ensures { result ≡ wrong_end start }
-    {
-        refuse(3, 0)
-    }
-
-    // Row 4.
-    pub fn short() -> Self
-        ensures { result ≡ short }
-    {
-        refuse(4, 0)
-    }
-
-    // Row 5, for a table and for a line.
-    pub fn too_large() -> Self
-        ensures { result ≡ too_large }
-    {
-        refuse(5, 0)
-    }
-
-    pub fn no_line() -> Self
-        ensures { result ≡ no_line }
-    {
-        refuse(5, 0)
-    }
-
-    // Row 6, for a table and for a payload to be framed.
-    pub fn wrong_length() -> Self
-        ensures { result ≡ wrong_length }
-    {
-        refuse(6, 0)
-    }
-
-    pub fn too_long() -> Self
-        ensures { result ≡ too_long }
-    {
-        refuse(6, 0)
-    }
-
-    // Row 7.
-    pub fn dirty_fill() -> Self
-        ensures { result ≡ dirty_fill }
-    {
-        refuse(7, 0)
-    }
-
-    // Rows 8 and 9, for entry i.
-    pub fn not_in_table(i: usize) -> Self
-        ensures { result ≡ not_in_table i }
-    {
-        refuse(8, i)
-    }
-
-    pub fn not_above(i: usize) -> Self
-        ensures { result ≡ not_above i }
-    {
-        refuse(9, i)
-    }
-
-    // Row 10.
-    pub fn no_room() -> Self
-        ensures { result ≡ no_room }
-    {
-        refuse(10, 0)
-    }
-
-    // Row 11.
-    pub fn no_work() -> Self
-        ensures { result ≡ no_work }
-    {
-        refuse(11, 0)
+        match answer {
+            Ok(_) => Status::success(),
+            Err(refusal) => Status::from(*refusal),
+        }
     }
 }

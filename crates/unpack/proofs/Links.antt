@@ -1,4 +1,4 @@
--- Unpacking the entries: ranks start without a chain (unchained_more), and putting an entry before the chain of its rank keeps
+-- Unpacking the entries: ranks start without a chain (unchained), and putting an entry before the chain of its rank keeps
 -- the chains (chained_none, linked); both write the numbers of entries and ranks alone. Leans on work's Area and on tables'
 -- laws of an entry's 20 bits.
 use Prim.Native.Nat.{ℕ, suc, ◌+◌, ◌*◌, ◌/◌, ◌%◌, ◌≤◌, ◌<◌}
@@ -6,40 +6,23 @@ use mathlib.Core.Path.{◌≡◌, ap, sym, ◌∙◌}
 use mathlib.Core.List.{List}
 use native.Mathlib.Decide.{ℕ_discrete}
 use native.Mathlib.Omega.{arith}
-use borrow.Author.Count.{below_more}
-use lib.ListN.{length}
 use Rattle.tables.specs.Payload.{entry_bits, entry_in}
 use Rattle.tables.proofs.Parts.{entry_parts, entry_small}
 use Rattle.units.specs.Limits.{most_pairs}
-use Rattle.work.specs.Work.{at, NUMBERS, PAIR, LINK, FIRST, signal_at, channel_at, next_at, rank_at, UnchangedBut, Put}
-use Rattle.work.proofs.Area.{put_other, but_refl, but_trans, but_put}
-use Rattle.unpack.specs.Unpacking.{Filled}
-use Rattle.unpack.specs.Inside.{Unchained, Chained, Linkable, Linked}
+use Rattle.work.specs.Work.{at, PAIR, LINK, FIRST, signal_at, channel_at, next_at, rank_at, Put, Fills}
+use Rattle.work.proofs.Area.{put_other, but_trans, but_put}
+use Rattle.unpack.specs.Inside.{EntriesFit, Unchained, Chained, Linkable, Linked}
 use Rattle.unpack.specs.Unpacking.Filled.{pair_of, link_of, first_of}
 
--- The first r ranks have no entry yet.
-pub record Unchaining (pairs r : ℕ) (v w : List ℕ) : Type 0 where
-  pub others : UnchangedBut (Filled pairs 0) w v
-  pub first : (i : ℕ) → i < r → at w FIRST i ≡ pairs
-
-pub unchained_none : (pairs : ℕ) (w : List ℕ) → Unchaining pairs 0 w w
-unchained_none pairs w = record { others = but_refl w; first = λ i l. absurd (omega arith) }
-
-pub unchained_more : {pairs r : ℕ} {v w x : List ℕ} → Unchaining pairs r v w → Put w FIRST r pairs x → r < 16 → Unchaining pairs (r + 1) v x
-unchained_more {pairs} {r} {x = x} u p few =
-    record {
-      others = but_trans (but_put p (first_of r few)) u.others;
-      first = below_more (λ i. at x FIRST i ≡ pairs) r (λ i l. put_other p FIRST i (λ e. omega arith) ∙ u.first i l) p.here;
-    }
-
-pub unchained_all : {pairs r : ℕ} {v w : List ℕ} → NUMBERS ≤ length v → Unchaining pairs r v w → 16 ≤ r → Unchained pairs w × UnchangedBut (Filled pairs 0) w v
-unchained_all l u m = (record { room = omega (arith, u.others.size); first = λ i k. u.first i (omega arith) }, u.others)
+-- Ranks whose first entries are filled have no entry yet.
+pub unchained : {pairs n : ℕ} {v w : List ℕ} → EntriesFit pairs v → 16 ≤ n → Fills FIRST n pairs v w → Unchained pairs w
+unchained fits all f = record { fits = record { room = omega (arith, f.size, fits.room); few = fits.few }; first = λ r l. f.here r (omega arith) }
 
 -- No entry is chained yet.
 pub chained_none : {p : List ℕ} {pairs : ℕ} {w : List ℕ} → Unchained pairs w → Chained p pairs pairs w
 chained_none u =
     record {
-      room = u.room;
+      fits = u.fits;
       signal = λ e l m. absurd (omega arith);
       channel = λ e l m. absurd (omega arith);
       rank = λ e l m. absurd (omega arith);
@@ -56,24 +39,27 @@ pub chained_at : {p : List ℕ} {pairs a b : ℕ} {w : List ℕ} → a ≡ b →
 chained_at e c = rw e at c
 
 -- The entry before those that are chained can be put before them.
-pub linkable : {p : List ℕ} {pairs n e x : ℕ} {w : List ℕ} → Chained p pairs n w → pairs ≤ most_pairs → e < pairs → x ≡ entry_bits p e → Linkable e x w
-linkable {p} {e = e} {x = x} c few l read =
+pub linkable : {p : List ℕ} {pairs n e x : ℕ} {w : List ℕ} → Chained p pairs n w → e < pairs → x ≡ entry_bits p e → Linkable e x w
+linkable {p} {e = e} {x = x} c l read =
     record {
-      room = c.room;
-      few = omega arith;
+      room = c.fits.room;
+      few = omega (arith, c.fits.few);
       bits = entry_small p e read;
-      first = omega (arith, c.first_most (x % 16) (omega arith));
+      first = omega (arith, c.fits.few, c.first_most (x % 16) (omega arith));
     }
 
 -- What putting it there promises, of one payload
-pub link_chained : {p : List ℕ} {pairs n e x : ℕ} {v w : List ℕ} → Linked e x v w → pairs ≤ most_pairs → e < pairs → x ≡ entry_bits p e
+pub link_chained : {p : List ℕ} {pairs n e x : ℕ} {v w : List ℕ} → Linked e x v w → e < pairs → x ≡ entry_bits p e
     → n ≡ e + 1 → Chained p pairs n v → Chained p pairs e w
-link_chained {p} {pairs} o few l read q c = o.chained p pairs few l read (chained_at q c)
+link_chained {p} {pairs} o l read q c = o.chained p pairs l read (chained_at q c)
 
 -- Entry n, with those behind it chained
-module _ {p : List ℕ} {pairs n e x next : ℕ} {w w₁ w₂ w₃ : List ℕ} (c : Chained p pairs e w) (few : pairs ≤ most_pairs) (down : suc n ≡ e)
+module _ {p : List ℕ} {pairs n e x next : ℕ} {w w₁ w₂ w₃ : List ℕ} (c : Chained p pairs e w) (down : suc n ≡ e)
     (more : e ≤ pairs) (read : x ≡ entry_bits p n) (first : next ≡ at w FIRST (x % 16)) (pair : Put w PAIR n (x / 16) w₁)
     (link : Put w₁ LINK n (next * 16 + x % 16) w₂) (head : Put w₂ FIRST (x % 16) n w₃) where
+  few : pairs ≤ most_pairs
+  few = c.fits.few
+
   small : x % 16 < 16
   small = omega arith
 
@@ -146,7 +132,7 @@ module _ {p : List ℕ} {pairs n e x next : ℕ} {w w₁ w₂ w₃ : List ℕ} (
   chained : Chained p pairs n w₃
   chained =
       record {
-        room = omega (arith, head.size, link.size, pair.size, c.room);
+        fits = record { room = omega (arith, head.size, link.size, pair.size, c.fits.room); few = few };
         signal = from_here (λ i. signal_at w₃ i ≡ (entry_in p i).signal) signal_here signal_behind;
         channel = from_here (λ i. channel_at w₃ i ≡ (entry_in p i).channel) channel_here channel_behind;
         rank =
@@ -206,6 +192,6 @@ pub linked : {n x next : ℕ} {w w₁ w₂ w₃ : List ℕ} → next ≡ at w FI
     → Put w₁ LINK n (next * 16 + x % 16) w₂ → Put w₂ FIRST (x % 16) n w₃ → Linked n x w w₃
 linked {n} {x} first pair link head =
     record {
-      chained = λ p pairs few l read c. chained c few (omega arith) (omega arith) read first pair link head;
+      chained = λ p pairs l read c. chained c (omega arith) (omega arith) read first pair link head;
       others = λ pairs l. but_trans (but_put head (first_of (x % 16) (omega arith))) (but_trans (but_put link (link_of n l)) (but_put pair (pair_of n l)));
     }

@@ -1,49 +1,52 @@
--- Where each signal's entries start: passing over the entries of a signal (passing_more, passing_stop, passing_end), and what
--- the loop over the signals keeps (starting_more, starting_done). Leans on work's Area.
-use Prim.Native.Nat.{ℕ, ◌+◌, ◌/◌, ◌≤◌, ◌<◌}
+-- Where each signal's entries start: passing over the entries of a signal (passed), and what the loop over the signals keeps
+-- (starting_more, starting_done). Leans on work's Area.
+use Prim.Native.Nat.{ℕ, ◌+◌, ◌-◌, ◌/◌, ◌≤◌, ◌<◌}
 use mathlib.Core.Path.{◌≡◌, ap, sym, ◌∙◌}
 use mathlib.Core.List.{List}
-use native.Mathlib.Decide.{dec_lt, ℕ_discrete}
+use native.Mathlib.Decide.{dec_lt}
 use native.Mathlib.Omega.{arith}
 use borrow.Author.Count.{below_more}
+use lib.ListN.{length, get_or}
+use Rattle.std.proofs.Common.{Option, Some, None, unwrap_or}
+use Rattle.std.specs.Option.{MatchOption}
+use Rattle.std.specs.List.{AllWithin, HoldsAt}
 use Rattle.units.specs.Limits.{most_pairs}
 use Rattle.work.specs.Work.{at, PAIR, START, signal_at, Unchanged, UnchangedBut, Put}
-use Rattle.work.proofs.Area.{put_other, put_below, unchanged_refl, unchanged_trans, unchanged_at, but_refl, but_trans, but_put}
+use Rattle.work.proofs.Area.{put_other, put_below, unchanged_trans, unchanged_at, but_trans, but_put}
 use Rattle.unpack.specs.Unpacking.{Filled}
 use Rattle.unpack.specs.Inside.{Splits, RunOf, Started}
 use Rattle.unpack.specs.Unpacking.Filled.{pair_of, link_of, first_of, start_of}
 
--- Passing over the entries of signal s, from a up to b so far
-pub record Passing (pairs : ℕ) (w : List ℕ) (s a b : ℕ) : Type 0 where
-  pub from : a ≤ b
-  pub most : b ≤ pairs
-  pub each : (e : ℕ) → a ≤ e → e < b → signal_at w e ≡ s
+-- The first of these pairs whose signal is not s: its place, or none.
+abbrev pub FirstOther : ℕ → List ℕ → Option ℕ → Type 0
+FirstOther s xs first =
+    MatchOption first (AllWithin (λ x. x / 256 ≡ s) xs 0 (length xs))
+    (λ i. (i < length xs) × HoldsAt (λ x. x / 256 ≡ s → ⊥) xs i × AllWithin (λ x. x / 256 ≡ s) xs 0 i)
 
-pub passing_none : {pairs : ℕ} (w : List ℕ) (s a : ℕ) → a ≤ pairs → Passing pairs w s a a
-passing_none w s a l = record { from = omega arith; most = l; each = λ e m k. absurd (omega arith) }
+-- Passing over the entries of signal s, where xs are the pairs from a on
+pub passed : {pairs a : ℕ} {w : List ℕ} (s : ℕ) (xs : List ℕ) → length xs ≡ pairs - a → a ≤ pairs
+    → ((i : ℕ) → i < length xs → get_or xs i 0 ≡ at w PAIR (a + i))
+    → (first : Option ℕ) → FirstOther s xs first → RunOf pairs w s a (a + unwrap_or first (length xs))
+unfolding signal_at
+passed {pairs} {a} {w} s xs all from read first found = pick first found
+  where
+    signal_is : (i : ℕ) → i < length xs → signal_at w (a + i) ≡ get_or xs i 0 / 256
+    signal_is i l = ap (λ (y : ℕ). y / 256) (sym (read i l))
 
-module _ {pairs s a b : ℕ} {w : List ℕ} (t : Passing pairs w s a b) where
-  pub passing_end : pairs ≤ b → RunOf pairs w s a b
-  passing_end l = record { from = t.from; most = t.most; each = t.each; stop = λ k q. omega arith }
+    run_to : (n : ℕ) → n ≤ length xs → AllWithin (λ x. x / 256 ≡ s) xs 0 n → (n < length xs → get_or xs n 0 / 256 ≡ s → ⊥) → RunOf pairs w s a (a + n)
+    run_to n l same other =
+        record {
+          from = omega arith;
+          most = omega arith;
+          each = λ e m k.
+              let q : a + (e - a) ≡ e = omega arith in
+              rw q at (signal_is (e - a) (omega arith) ∙ same (e - a) 0 (omega arith) (omega arith));
+          stop = λ k q. other (omega arith) (sym (signal_is n (omega arith)) ∙ q);
+        }
 
-  -- x is the pair at b
-  module _ {x : ℕ} (read : x ≡ at w PAIR b) where
-    signal_is : signal_at w b ≡ x / 256
-    unfolding signal_at
-    signal_is = ap (λ (y : ℕ). y / 256) (sym read)
-
-    pub passing_stop : (x / 256 ≡ s → ⊥) → RunOf pairs w s a b
-    passing_stop q = record { from = t.from; most = t.most; each = t.each; stop = λ k h. q (sym signal_is ∙ h) }
-
-    pub passing_more : x / 256 ≡ s → b < pairs → Passing pairs w s a (b + 1)
-    passing_more q l = record { from = omega (arith, t.from); most = omega arith; each = each }
-      where
-        each : (e : ℕ) → a ≤ e → e < b + 1 → signal_at w e ≡ s
-        each e m k = pick (ℕ_discrete e b)
-          where
-            pick : Dec (e ≡ b) → signal_at w e ≡ s
-            pick (yes h) = rw h (signal_is ∙ q)
-            pick (no h) = t.each e m (omega arith)
+    pick : (r : Option ℕ) → FirstOther s xs r → RunOf pairs w s a (a + unwrap_or r (length xs))
+    pick None same = run_to (length xs) (omega arith) same (λ l. absurd (omega arith))
+    pick (Some i) h = run_to i (omega arith) h.2 (λ l. h.1 0)
 
 -- Areas that are the same but for some starts are the same but for more.
 pub more_starts : {pairs a b : ℕ} {v w : List ℕ} → a ≤ b → UnchangedBut (Filled pairs a) v w → UnchangedBut (Filled pairs b) v w
@@ -61,18 +64,6 @@ pub record Starting (pairs s e : ℕ) (v w : List ℕ) : Type 0 where
   pub others : UnchangedBut (Filled pairs s) w v
   pub starts : (t : ℕ) → t < s → Splits pairs v t (at w START t)
   pub here : Splits pairs v s e
-
-pub starting_none : (pairs : ℕ) (w : List ℕ) → Starting pairs 0 0 w w
-starting_none pairs w =
-    record {
-      below = unchanged_refl 0 START w;
-      others = but_refl w;
-      starts = λ t l. absurd (omega arith);
-      here = record { most = omega arith; before = λ e l. absurd (omega arith); behind = λ e l m. omega arith };
-    }
-
-pub starting_at : {pairs a b e : ℕ} {v w : List ℕ} → a ≡ b → Starting pairs a e v w → Starting pairs b e v w
-starting_at q t = rw q at t
 
 module _ {pairs s e : ℕ} {v w x : List ℕ} (t : Starting pairs s e v w) (p : Put w START s e x) where
   same_table : Unchanged 0 START x v
@@ -109,5 +100,5 @@ module _ {pairs s e : ℕ} {v w x : List ℕ} (t : Starting pairs s e v w) (p : 
     starting_more =
         record { below = same_table; others = others_to; starts = starts_to; here = record { most = q.most; before = before; behind = behind } }
 
-pub starting_done : {signals pairs e : ℕ} {v w x : List ℕ} → Starting pairs signals e v w → Put w START signals e x → Started signals pairs v x
-starting_done t p = record { below = same_table t p; others = others_to t p; starts = λ s l. starts_to t p s (omega arith) }
+pub starting_done : {signals pairs s e : ℕ} {v w x : List ℕ} → s ≡ signals → Starting pairs s e v w → Put w START signals e x → Started signals pairs v x
+starting_done last start p = let t = rw last at start in record { below = same_table t p; others = others_to t p; starts = λ s l. starts_to t p s (omega arith) }

@@ -67,7 +67,10 @@ signals_rise {p} sound i j l m = go (j - i) j (omega arith) m
 pub size_limits : {p : List ℕ} {z : Size} → Sound p → z ≡ size_in p → Limits z
 size_limits sound is = rw is sound.limits
 
-module _ {p : List ℕ} {z : Size} {v : List ℕ} (sound : Sound p) (is : z ≡ size_in p) (c : Chained p z.pairs.0 0 v) where
+module _ {p : List ℕ} {z : Size} {pairs : ℕ} {v : List ℕ} (sound : Sound p) (is : z ≡ size_in p) (chain : Chained p pairs 0 v) (all : pairs ≡ z.pairs.0) where
+  c : Chained p z.pairs.0 0 v
+  c = rw all at chain
+
   limits : Limits z
   limits = size_limits sound is
 
@@ -87,18 +90,21 @@ module _ {p : List ℕ} {z : Size} {v : List ℕ} (sound : Sound p) (is : z ≡ 
   in_payload l = rw (size_pairs p is) at l
 
   -- so those that are chained are in order.
-  pub chained_rising : SignalsRise z.signals z.pairs.0 v
+  pub chained_rising : SignalsRise z.signals pairs v
   chained_rising =
+      rw all
       record {
-        room = c.room;
+        fits = c.fits;
         few_signals = limits.few_signals;
-        few_pairs = limits.few_pairs;
         signal = λ e l. omega (arith, c.signal e (omega arith) l, sound.signal e (in_payload l), signals_are);
         rising = λ i j l m.
             omega (arith, c.signal i (omega arith) (omega arith), c.signal j (omega arith) m, signals_rise sound i j l (in_payload m));
       }
 
-  module _ {w : List ℕ} (s : Started z.signals z.pairs.0 v w) where
+  module _ {w : List ℕ} (started : Started z.signals pairs v w) where
+    s : Started z.signals z.pairs.0 v w
+    s = rw all at started
+
     same_pair : (e : ℕ) → e < z.pairs.0 → at w PAIR e ≡ at v PAIR e
     same_pair e l = unchanged_at s.below PAIR e (omega arith) (omega (arith, limits.few_pairs))
 
@@ -126,7 +132,7 @@ module _ {p : List ℕ} {z : Size} {v : List ℕ} (sound : Sound p) (is : z ≡ 
       same_next = ap (λ (x : ℕ). x / 16) (same_link e l)
 
     inside : (e : ℕ) → e < z.pairs.0 → signal_at v e < z.signals
-    inside = chained_rising.signal
+    inside e l = chained_rising.signal e (omega arith)
 
     signal : (e : ℕ) → e < z.pairs.0 → signal_at w e ≡ (entry_in p e).signal
     signal e l = same_signal e l ∙ c.signal e (omega arith) l
@@ -140,7 +146,7 @@ module _ {p : List ℕ} {z : Size} {v : List ℕ} (sound : Sound p) (is : z ≡ 
     input : Input z w
     input =
         record {
-          room = omega (arith, s.below.size, c.room);
+          room = omega (arith, s.below.size, c.fits.room);
           limits = limits;
           signal = λ e l. rw (same_signal e l) (inside e l);
           channel = λ e l. omega (arith, channel e l, sound.channel e (in_payload l), channels_are);
@@ -164,6 +170,6 @@ module _ {p : List ℕ} {z : Size} {v : List ℕ} (sound : Sound p) (is : z ≡ 
               c.next_skips e j (omega arith) l m (omega (arith, same_next e l)) h (sym (same_rank j h) ∙ q ∙ same_rank e l);
         }
 
-    pub started_unpacked : {u : List ℕ} → UnchangedBut (Filled z.pairs.0 0) v u → Unpacked p z u w
+    pub started_unpacked : {u : List ℕ} → UnchangedBut (Filled pairs 0) v u → Unpacked p z u w
     started_unpacked h =
-        record { input = input; signal = signal; channel = channel; rank = rank; others = but_trans s.others (more_starts (omega arith) h) }
+        record { input = input; signal = signal; channel = channel; rank = rank; others = but_trans s.others (more_starts (omega arith) (rw all at h)) }

@@ -5,14 +5,19 @@ use Rattle.units.specs.Limits.{most_signals, most_pairs}
 use Rattle.work.specs.Work.{at, NUMBERS, FIRST, START, signal_at, channel_at, next_at, rank_at, Unchanged, UnchangedBut}
 use Rattle.unpack.specs.Unpacking.{Filled}
 
+-- So many entries fit: a table may have them, and the area has room.
+pub record EntriesFit (pairs : ℕ) (w : List ℕ) : Type 0 where
+  pub room : NUMBERS ≤ length w
+  pub few : pairs ≤ most_pairs
+
 -- No rank has an entry yet.
 pub record Unchained (pairs : ℕ) (w : List ℕ) : Type 0 where
-  pub room : NUMBERS ≤ length w
+  pub fits : EntriesFit pairs w
   pub first : (r : ℕ) → r < 16 → at w FIRST r ≡ pairs
 
 -- The entries from n on are those of payload p, and those of a rank form a chain from the first one on; `pairs` ends a chain.
 pub record Chained (p : List ℕ) (pairs n : ℕ) (w : List ℕ) : Type 0 where
-  pub room : NUMBERS ≤ length w
+  pub fits : EntriesFit pairs w
   pub signal : (e : ℕ) → n ≤ e → e < pairs → signal_at w e ≡ (entry_in p e).signal
   pub channel : (e : ℕ) → n ≤ e → e < pairs → channel_at w e ≡ (entry_in p e).channel
   pub rank : (e : ℕ) → n ≤ e → e < pairs → rank_at w e ≡ (entry_in p e).rank
@@ -34,14 +39,13 @@ pub record Linkable (e entry : ℕ) (w : List ℕ) : Type 0 where
 -- Entry e is put before the chain of its rank: of whatever payload these are the 20 bits, its chains from e + 1 on are now those
 -- from e on. Elsewhere w holds what v held.
 pub record Linked (e entry : ℕ) (v w : List ℕ) : Type 0 where
-  pub chained : (p : List ℕ) (pairs : ℕ) → pairs ≤ most_pairs → e < pairs → entry ≡ entry_bits p e → Chained p pairs (e + 1) v → Chained p pairs e w
+  pub chained : (p : List ℕ) (pairs : ℕ) → e < pairs → entry ≡ entry_bits p e → Chained p pairs (e + 1) v → Chained p pairs e w
   pub others : (pairs : ℕ) → e < pairs → UnchangedBut (Filled pairs 0) w v
 
 -- The signals of the entries are in range and never fall.
 pub record SignalsRise (signals pairs : ℕ) (w : List ℕ) : Type 0 where
-  pub room : NUMBERS ≤ length w
+  pub fits : EntriesFit pairs w
   pub few_signals : signals ≤ most_signals
-  pub few_pairs : pairs ≤ most_pairs
   pub signal : (e : ℕ) → e < pairs → signal_at w e < signals
   pub rising : (i j : ℕ) → i ≤ j → j < pairs → signal_at w i ≤ signal_at w j
 

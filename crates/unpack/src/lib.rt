@@ -5,66 +5,51 @@
 ghost use Rattle.std.specs.Prelude.{◌≡◌, ◌*◌, ◌/◌, ◌≤◌, length};
 ghost use Rattle.tables.specs.Payload.{size_in};
 ghost use Rattle.tables.specs.Sound.{Sound};
-ghost use Rattle.units.specs.Limits.{most_pairs};
 ghost use Rattle.work.specs.Work.{NUMBERS, UnchangedBut};
 ghost use Rattle.unpack.specs.Unpacking.{Filled, Unpacked};
-ghost use Rattle.unpack.specs.Inside.{Unchained, Chained, Linkable, Linked, SignalsRise, RunOf, Started};
+ghost use Rattle.unpack.specs.Inside.{EntriesFit, Unchained, Chained, Linkable, Linked, SignalsRise, RunOf, Started};
 
 use tables::{entry_at, two_entries};
 use units::Size;
-use work::{FIRST, LINK, PAIR, START, get, put};
+use work::{FIRST, LINK, PAIR, START, fill, get, put};
 
 pub fn unpack(payload: &[u8], w: &mut [u16], size: Size)
     requires { Sound payload.now × (size ≡ size_in payload.now) × (NUMBERS ≤ length w.old) }
     ensures { Unpacked payload.now size w.old w.new }
 {
-    let pairs = size.pairs.0 as usize;
-    unchain(w, pairs);
+    let pairs = usize::from(size.pairs);
+    // Every rank's chain is empty: a rank has four bits.
+    fill(w, FIRST, 16, pairs);
     chain(payload, w, pairs);
     find_starts(w, size.signals, pairs);
 }
 
-// Every rank's chain is empty.
-fn unchain(w: &mut [u16], pairs: usize)
-    requires { (NUMBERS ≤ length w.old) × (pairs ≤ most_pairs) }
-    ensures { Unchained pairs w.new × UnchangedBut (Filled pairs 0) w.new w.old }
-{
-    let mut r = 0;
-    while r < 16 {
-        put(w, FIRST, r, pairs);
-        r += 1;
-    }
-}
-
 // The entries, from the last to the first, two by two: two entries are five whole bytes.
 fn chain(payload: &[u8], w: &mut [u16], pairs: usize)
-    requires { Unchained pairs w.old × (pairs ≤ most_pairs) }
+    requires { Unchained pairs w.old }
     ensures { Chained payload.now pairs 0 w.new × UnchangedBut (Filled pairs 0) w.new w.old }
 {
     chain_odd(payload, w, pairs);
-    let mut two = pairs / 2;
-    while 0 < two {
-        two -= 1;
-        let both = two_entries(payload, two);
-        link(w, 2 * two + 1, both % 1048576);
-        link(w, 2 * two, both / 1048576);
+    for two in (0..pairs / 2).rev() {
+        let (even, odd) = two_entries(payload, two);
+        link(w, 2 * two + 1, odd);
+        link(w, 2 * two, even);
     }
 }
 
 // The last entry by itself, where their number is odd.
 fn chain_odd(payload: &[u8], w: &mut [u16], pairs: usize)
-    requires { Unchained pairs w.old × (pairs ≤ most_pairs) }
+    requires { Unchained pairs w.old }
     ensures { Chained payload.now pairs (2 * (pairs / 2)) w.new × UnchangedBut (Filled pairs 0) w.new w.old }
 {
-    if pairs % 2 == 0 {
-        return;
+    if pairs % 2 == 1 {
+        let last = pairs - 1;
+        link(w, last, entry_at(payload, last));
     }
-    let last = pairs - 1;
-    let entry = entry_at(payload, last);
-    link(w, last, entry);
 }
 
 // Entry e, whose 20 bits are at hand, is put before the chain of its rank.
+#[tactic(auto, using(crate::proofs::Links::linked))]
 fn link(w: &mut [u16], e: usize, entry: usize)
     requires { Linkable e entry w.old }
     ensures { Linked e entry w.old w.new }
@@ -82,26 +67,22 @@ fn find_starts(w: &mut [u16], signals: usize, pairs: usize)
     ensures { Started signals pairs w.old w.new }
 {
     let mut e = 0;
-    let mut s = 0;
-    while s < signals {
+    for s in 0..signals {
         put(w, START, s, e);
         e = pass(w, pairs, s, e);
-        s += 1;
     }
     put(w, START, signals, e);
 }
 
 // The first entry from `start` on whose signal is not s.
 fn pass(w: &[u16], pairs: usize, s: usize, start: usize) -> usize
-    requires { (NUMBERS ≤ length w.now) × (pairs ≤ most_pairs) × (start ≤ pairs) }
+    requires { EntriesFit pairs w.now × (start ≤ pairs) }
     ensures { RunOf pairs w.now s start result }
 {
-    let mut e = start;
-    while e < pairs {
-        if get(w, PAIR, e) / 256 != s {
-            return e;
-        }
-        e += 1;
-    }
-    e
+    let rest = &w[PAIR + start..PAIR + pairs];
+    start
+        + rest
+            .iter()
+            .position(|&pair| usize::from(pair) / 256 != s)
+            .unwrap_or(rest.len())
 }

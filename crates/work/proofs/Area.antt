@@ -1,12 +1,14 @@
--- Laws of the work area: what a store does to its own index and to any other (Put, put_other), what agrees where two areas are
--- Unchanged in a range, or are so but at some indices (UnchangedBut), and what a region holds that is cut out (region_at).
-use Prim.Native.Nat.{ℕ, ◌+◌, ◌≤◌, ◌<◌}
+-- Laws of the work area: what a store does to its own index and to any other (Put, put_other), what a fill and a copy leave as it
+-- was (fill_below, copy_below), what agrees where two areas are Unchanged in a range, or are so but at some indices (UnchangedBut),
+-- and what a region holds that is cut out (region_at).
+use Prim.Native.Nat.{ℕ, ◌+◌, ◌-◌, ◌≤◌, ◌<◌}
 use mathlib.Core.Path.{◌≡◌, refl, sym, ◌∙◌}
 use mathlib.Core.List.{List}
+use native.Mathlib.Decide.{dec_lt}
 use native.Mathlib.Omega.{arith}
 use lib.ListN.{length, get_or, set, take, drop, length-set, length-drop}
 use lib.Seq.{get_or-set_same, get_or-set_other, get_or-take, get_or-drop, length-take-le}
-use Rattle.work.specs.Work.{at, Unchanged, UnchangedBut, Put}
+use Rattle.work.specs.Work.{at, Unchanged, UnchangedBut, Put, Fills, Copies}
 
 -- Stores
 
@@ -34,6 +36,14 @@ module _ {w v : List ℕ} {off i x : ℕ} (p : Put w off i x v) where
 
   pub put_above : (a b : ℕ) → off + i < a → Unchanged a b v w
   put_above a b h = record { size = p.size; each = λ k l m. p.others k (λ q. omega arith) }
+
+-- Fills and copies leave a range outside the part the same.
+
+pub fill_below : {off n x : ℕ} {v w : List ℕ} → Fills off n x v w → (a b : ℕ) → b ≤ off → Unchanged a b w v
+fill_below f a b h = record { size = f.size; each = λ k l m. f.below k (omega arith) }
+
+pub copy_below : {from to n : ℕ} {v w : List ℕ} → Copies from to n v w → (a b : ℕ) → b ≤ to → Unchanged a b w v
+copy_below c a b h = record { size = c.size; each = λ k l m. c.below k (omega arith) }
 
 -- Areas that are the same in a range
 
@@ -65,6 +75,15 @@ but_trans h k = record { size = h.size ∙ k.size; each = λ i l. h.each i l ∙
 -- a store at one of the indices
 pub but_put : {P : ℕ → Type 0} {w v : List ℕ} {off i x : ℕ} → Put w off i x v → P (off + i) → UnchangedBut P v w
 but_put p h = record { size = p.size; each = λ k other. p.others k (λ q. other (rw q h)) }
+
+-- a fill of some of the indices
+pub but_fill : {P : ℕ → Type 0} {off n x : ℕ} {v w : List ℕ} → Fills off n x v w → ((i : ℕ) → i < n → P (off + i)) → UnchangedBut P w v
+but_fill {P} {off} {n} {x} {v} {w} f h = record { size = f.size; each = λ k other. pick k other (dec_lt k off) (dec_lt k (off + n)) }
+  where
+    pick : (k : ℕ) → (P k → ⊥) → Dec (k < off) → Dec (k < off + n) → get_or w k 0 ≡ get_or v k 0
+    pick k other (yes l) m = f.below k l
+    pick k other (no l) (no m) = f.behind k (omega arith)
+    pick k other (no l) (yes m) = let q : off + (k - off) ≡ k = omega arith in absurd (other (rw q at (h (k - off) (omega arith))))
 
 -- A region cut out of the area: the n numbers from `off` on
 

@@ -104,3 +104,17 @@ pub record Put (w : List ℕ) (off i x : ℕ) (v : List ℕ) : Type 0 where
   pub size : length v ≡ length w
   pub here : at v off i ≡ x
   pub others : (k : ℕ) → (k ≡ off + i → ⊥) → get_or v k 0 ≡ get_or w k 0
+
+-- w is v with x put at the first n numbers of the region that starts at `off`.
+pub record Fills (off n x : ℕ) (v w : List ℕ) : Type 0 where
+  pub size : length w ≡ length v
+  pub here : (i : ℕ) → i < n → at w off i ≡ x
+  pub below : (k : ℕ) → k < off → get_or w k 0 ≡ get_or v k 0
+  pub behind : (k : ℕ) → off + n ≤ k → get_or w k 0 ≡ get_or v k 0
+
+-- w is v with the first n numbers of the region that starts at `from` put at those of the region that starts at `to`.
+pub record Copies (from to n : ℕ) (v w : List ℕ) : Type 0 where
+  pub size : length w ≡ length v
+  pub here : (i : ℕ) → i < n → at w to i ≡ at v from i
+  pub below : (k : ℕ) → k < to → get_or w k 0 ≡ get_or v k 0
+  pub behind : (k : ℕ) → to + n ≤ k → get_or w k 0 ≡ get_or v k 0

@@ -3,4 +3,4 @@ use Rattle.answer.proofs.Written.{last_written}
 use Rattle.answer.proofs.put_last.Goals as goal
 
 pub returns : goal.returns
-returns c = last_written _ _ c.requires.1 c.requires.0 c.put.ensures c.put-2.ensures
+returns c = last_written _ _ c.requires.1 c.requires.0

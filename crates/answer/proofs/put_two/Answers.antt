@@ -3,4 +3,4 @@ use Rattle.answer.proofs.Written.{two_written}
 use Rattle.answer.proofs.put_two.Goals as goal
 
 pub returns : goal.returns
-returns c = two_written _ _ c.requires.1 _ c.requires.2 c.requires.0 c.put.ensures c.put-2.ensures c.put-3.ensures
+returns c = two_written _ _ c.requires.1 _ c.requires.2 c.requires.0

@@ -4,14 +4,7 @@ use Rattle.answer.proofs.Written.{row_none, counts_more}
 use Rattle.answer.proofs.write_counts.Goals as goal
 
 pub loop-i-init : goal.loop-i-init
-loop-i-init c = (omega arith, row_none 2 8 _ _)
-
-pub put-requires : goal.put-requires
-put-requires c =
-    omega (arith, c.requires.1, c.loop-i.invariant.1.size, c.nth-count.ensures, c.requires.0.each _ c.loop-i-test.true)
+loop-i-init c = row_none 2 8 _ _
 
 pub loop-i-preserved : goal.loop-i-preserved
-loop-i-preserved c = (
-  omega arith,
-  counts_more _ _ c.loop-i.invariant.1 (omega (arith, c.requires.1)) c.nth-count.ensures (c.requires.0.each _ c.loop-i-test.true) c.put.ensures,
-)
+loop-i-preserved c = counts_more _ _ c.loop-i.invariant (omega (arith, c.requires.1)) (c.requires.0.each _ c.loop-i-test.true)

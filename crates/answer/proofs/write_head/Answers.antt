@@ -3,4 +3,4 @@ use Rattle.answer.proofs.Written.{head_written}
 use Rattle.answer.proofs.write_head.Goals as goal
 
 pub returns : goal.returns
-returns c = head_written _ _ c.requires.0 c.requires.1 c.requires.2 c.put.ensures c.put-2.ensures
+returns c = head_written _ _ c.requires.0 c.requires.1 c.requires.2

@@ -1,21 +1,28 @@
 -- `answer::write_places` meets its contract, by the laws of proofs/Written: two more places, and the end with a last one.
-use Rattle.std.proofs.Common.{arith}
-use Rattle.answer.proofs.Written.{paired_none, paired_more, paired_last}
+use Rattle.std.proofs.Common.{◌≡◌, ◌/◌, length, arith}
+use Rattle.answer.proofs.Twos.{two_of, left_of}
+use Rattle.answer.proofs.Written.{row_none, places_more, places_last}
 use Rattle.answer.proofs.write_places.Goals as goal
 
-pub loop-s-init : goal.loop-s-init
-loop-s-init c = (omega arith, paired_none _ _ _)
+pub loop-two-init : goal.loop-two-init
+loop-two-init c = row_none _ 12 _ _
 
-pub loop-s-preserved : goal.loop-s-preserved
-loop-s-preserved c =
-    let more = c.loop-s-test.true in
-    let P = c.loop-s.invariant.1 in (
-      omega (arith, more),
-      paired_more P _ _ (omega (arith, c.requires.1, P.next, more)) c.nth-p.ensures c.nth-q.ensures c.put_two.ensures,
+pub put_two-requires : goal.put_two-requires
+put_two-requires c =
+    let both = two_of c.args.places.now c.loop-two.two c.as_chunks.ensures.front (omega arith) in (
+      omega (arith, c.requires.1),
+      rw both.0 (c.requires.0.each _ (omega arith)),
+      rw both.1 (c.requires.0.each _ (omega arith)),
     )
 
-pub returns-then-s-signals : goal.returns-then-s-signals
-returns-then-s-signals c =
-    let odd = c.if-s-signals.true in
-    let P = c.loop-s.invariant.1 in
-    paired_last P _ _ odd c.loop-s-test.false (omega (arith, c.requires.1, P.next, odd)) c.nth-p-then-s-signals.ensures c.put_last.ensures
+pub loop-two-preserved : goal.loop-two-preserved
+loop-two-preserved c =
+    let both = two_of c.args.places.now c.loop-two.two c.as_chunks.ensures.front (omega arith) in
+    places_more _ _ _ c.loop-two.invariant (omega (arith, c.requires.1)) (rw (both.0, both.1) at c.put_two.ensures)
+
+pub returns-in-len1 : goal.returns-in-len1
+returns-in-len1 c =
+    let all : c.loop-two.two ≡ length c.args.places.now / 2 = omega arith in
+    let end : c.loop-two.two ≡ length c.as_chunks.result.0.now = omega arith in
+    places_last _ _ _ c.loop-two.invariant (omega (arith, c.requires.1)) _ (omega arith)
+    (rw (left_of c.args.places.now c.loop-two.two c.as_chunks.ensures.back all, ← end) at c.put_last.ensures)

@@ -1,11 +1,10 @@
--- The loop keeps Paired, by the laws of proofs/Written.
-use Rattle.std.proofs.Common.{◌≤◌, ◌-◌}
+-- The loop keeps the places so far spliced in, by the laws of proofs/Written.
+use Rattle.std.proofs.Common.{◌*◌}
+use Rattle.fields.specs.Fields.{packed}
 use Rattle.plans.specs.Order.{filled}
-use Rattle.answer.proofs.Written.{Paired}
+use Rattle.answer.specs.Answer.{row}
+use Rattle.answer.specs.Writing.{Spliced}
 use Rattle.answer.proofs.write_places.Given as goal
 
-abbrev pub invariant-loop-s : goal.invariant-loop-s
-invariant-loop-s l = (l.s ≤ l.signals) × Paired (filled l.places) l.start l.s l.i l.fn.out l.out
-
-abbrev pub decreases-loop-s : goal.decreases-loop-s
-decreases-loop-s l = l.signals - l.s
+abbrev pub invariant-loop-two : goal.invariant-loop-two
+invariant-loop-two l = Spliced l.start (packed (row 12 (2 * l.two) (filled l.places))) l.fn.out l.out

@@ -1,7 +1,6 @@
 -- `enter::enter_pair` meets its contract: each return is one law of proofs/Joined.
-use Rattle.std.proofs.Common.{refl, arith}
+use Rattle.std.proofs.Common.{arith}
 use Rattle.work.proofs.Area.{put_is}
-use Rattle.enter.specs.Inside.EnteredPair.{joined, left_out}
 use Rattle.enter.proofs.Joined.{pair_end, pair_left_out, pair_joined}
 use Rattle.enter.proofs.enter_pair.Goals as goal
 
@@ -13,8 +12,7 @@ put-requires-then-shut-eq0 c = omega (arith, pair_end _ _ c.get-pair.ensures.0 c
 
 pub returns-then-shut-eq0 : goal.returns-then-shut-eq0
 returns-then-shut-eq0 c =
-    joined refl
-    (pair_joined _ _
+    pair_joined _ _
     c.get-pair.ensures.0
     c.requires.2
     c.requires.3
@@ -23,7 +21,7 @@ returns-then-shut-eq0 c =
     c.if-shut-eq0.true
     c.get-end.ensures.0
     (put_is c.put.ensures (omega arith) (omega arith) (omega arith))
-    (put_is c.put-then-shut-eq0.ensures (omega arith) (omega arith) (omega arith)))
+    (put_is c.put-then-shut-eq0.ensures (omega arith) (omega arith) (omega arith))
 
 pub returns : goal.returns
-returns c = left_out refl (pair_left_out _ _ c.get-pair.ensures.0 c.get.ensures.0 c.get-2.ensures.0 c.if-shut-eq0.false)
+returns c = pair_left_out _ _ c.get-pair.ensures.0 c.get.ensures.0 c.get-2.ensures.0 c.if-shut-eq0.false

@@ -1,10 +1,7 @@
 -- `lines::order_of`: the two lines agree on the ranks passed.
-use Rattle.std.proofs.Common.{◌-◌}
-use Rattle.lines.proofs.Compared.{Agreeing}
+use Rattle.std.proofs.Common.{◌≡◌, ℕ, ◌<◌}
+use Rattle.plans.specs.Order.{filled}
 use Rattle.lines.proofs.order_of.Given as goal
 
 abbrev pub invariant-loop-i : goal.invariant-loop-i
-invariant-loop-i l = Agreeing l.a l.b l.i
-
-abbrev pub decreases-loop-i : goal.decreases-loop-i
-decreases-loop-i l = 15 - l.i
+invariant-loop-i l = (j : ℕ) → j < l.i → filled l.a j ≡ filled l.b j

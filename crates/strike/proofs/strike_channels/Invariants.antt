@@ -1,12 +1,8 @@
 -- `strike::strike_channels`: the loop keeps StruckChannels.
-use Rattle.std.proofs.Common.{◌-◌, ◌≤◌, length}
-use Rattle.units.specs.Limits.{most_channels}
+use Rattle.std.proofs.Common.{◌≤◌, length}
 use Rattle.work.specs.Work.{NUMBERS}
 use Rattle.strike.specs.Inside.{StruckChannels}
 use Rattle.strike.proofs.strike_channels.Given as goal
 
 abbrev pub invariant-loop-c : goal.invariant-loop-c
-invariant-loop-c l = (l.c ≤ l.channels) × (l.channels ≤ most_channels) × (NUMBERS ≤ length l.w) × StruckChannels l.c l.initial.w l.w
-
-abbrev pub decreases-loop-c : goal.decreases-loop-c
-decreases-loop-c l = l.channels - l.c
+invariant-loop-c l = (NUMBERS ≤ length l.w) × StruckChannels l.c l.initial.w l.w

@@ -1,54 +1,49 @@
 -- `table::check` meets its contract: each return is one law of proofs/Rows.
-use Rattle.std.proofs.Common.{◌≤◌, List, ℕ, length, ◌≡◌, arith, ◌∙◌}
-use Rattle.units.specs.declared.Size.{Size}
-use Rattle.units.specs.Limits.{most_signals, most_channels, most_pairs}
-use Rattle.tables.specs.Payload.{size_in}
-use Rattle.tables.proofs.Parts.{few_ranks_in}
-use Rattle.table.proofs.Rows.{SizeRead, SizeFits, checked_short, many_signals, many_channels, many_pairs, wrong_length_lem, dirty_fill_lem, clean_fill}
+use Rattle.std.proofs.Common.{◌≤◌, ◌≡◌, length, arith, refl}
+use Rattle.std.specs.Prelude.{cond, eqb, Err}
+use Rattle.units.specs.declared.refusals.Refusal.TheVariants.{DirtyFill}
+use Rattle.tables.specs.Payload.{pairs_in}
+use Rattle.std.proofs.lemmas.Result.{err_from_is_err_and}
+use Rattle.table.specs.Checking.{judged, checked_of}
+use borrow.Author.Tests.{eq-eqb, ne_eqb}
+use Rattle.table.proofs.Rows.{checked_short, many_signals, many_channels, many_pairs, wrong_length_lem, past_row_6}
+use Rattle.table.proofs.check.Goals.{then-size-gt-MOST_SIGNALS-via-then-size-gt-MOST_SIGNALS, then-size-gt-MOST_SIGNALS-via-else-size-gt-MOST_SIGNALS+then-size-gt-MOST_CHANNELS, then-size-gt-MOST_SIGNALS-via-else-size-gt-MOST_SIGNALS+else-size-gt-MOST_CHANNELS+then-pairs-gt-MOST_PAIRS}
 use Rattle.table.proofs.check.Goals as goal
-
-size_read : {p : List ℕ} {z : Size} → 4 ≤ length p → z ≡ size_in p → SizeRead p z
-size_read long is_size = record { long = long; is_size = is_size }
-
-size_fits : {p : List ℕ} {z : Size} → 4 ≤ length p → z ≡ size_in p → z.signals ≤ most_signals → z.channels ≤ most_channels
-    → z.pairs.0 ≤ most_pairs → SizeFits p z
-size_fits long is_size few_signals few_channels few_pairs =
-    record {
-      read = size_read long is_size;
-      limits =
-          record {
-            few_signals = few_signals;
-            few_channels = few_channels;
-            few_ranks = few_ranks_in _ is_size;
-            few_pairs = few_pairs;
-          };
-    }
+use Rattle.table.proofs.check.Goals.{After-read}
 
 pub returns-then-payload-lt4 : goal.returns-then-payload-lt4
-returns-then-payload-lt4 c = cc (checked_short c.args.payload.now (omega arith))
+returns-then-payload-lt4 c = checked_short _ (omega arith)
 
 pub returns-then-size-gt-MOST_SIGNALS : goal.returns-then-size-gt-MOST_SIGNALS
-returns-then-size-gt-MOST_SIGNALS c = cc (many_signals (size_read (omega arith) c.size_of-size.ensures) (omega arith))
+returns-then-size-gt-MOST_SIGNALS c =
+    let long : 4 ≤ length c.args.payload.now = omega arith in
+    let is_size = c.size_of-size.ensures in
+    elim c.then-size-gt-MOST_SIGNALS.branch [
+      | then-size-gt-MOST_SIGNALS-via-then-size-gt-MOST_SIGNALS w ↦ many_signals _ long is_size (omega arith)
+      | then-size-gt-MOST_SIGNALS-via-else-size-gt-MOST_SIGNALS+then-size-gt-MOST_CHANNELS w ↦ many_channels _ long is_size (omega arith)
+      | then-size-gt-MOST_SIGNALS-via-else-size-gt-MOST_SIGNALS+else-size-gt-MOST_CHANNELS+then-pairs-gt-MOST_PAIRS w ↦ many_pairs _ long is_size (omega arith)
+    ]
 
-pub returns-then-size-gt-MOST_CHANNELS : goal.returns-then-size-gt-MOST_CHANNELS
-returns-then-size-gt-MOST_CHANNELS c = cc (many_channels (size_read (omega arith) c.size_of-size.ensures) (omega arith))
+pub returns-then-payload-from : goal.returns-then-payload-from
+returns-then-payload-from c =
+    wrong_length_lem _ (omega arith) c.size_of-size.ensures (omega arith) (omega arith) (omega arith) (λ e. omega arith)
 
-pub returns-then-count-gt-MOST_PAIRS : goal.returns-then-count-gt-MOST_PAIRS
-returns-then-count-gt-MOST_PAIRS c = cc (many_pairs (size_read (omega arith) c.size_of-size.ensures) (omega arith))
-
-pub returns-then-payload-taken : goal.returns-then-payload-taken
-returns-then-payload-taken c =
-    cc
-    (wrong_length_lem (size_fits (omega arith) c.size_of-size.ensures (omega arith) (omega arith) (omega arith)) (λ e. omega arith))
+-- Once the fill is read, it decides, and then the entries.
+fill_next : (c : After-read)
+    → checked_of c.args.payload.now ≡ cond (eqb c.read.result 0) (judged c.args.payload.now (pairs_in c.args.payload.now)) (Err DirtyFill)
+fill_next c =
+    past_row_6 _ (omega arith) c.size_of-size.ensures (omega arith) (omega arith) (omega arith) (omega arith) _ _ _
+    c.read.ensures (omega arith) (omega arith)
 
 pub returns-then-read-ne0 : goal.returns-then-read-ne0
-returns-then-read-ne0 c =
-    cc
-    (dirty_fill_lem (size_fits (omega arith) c.size_of-size.ensures (omega arith) (omega arith) (omega arith)) (omega arith)
-    c.read.result _ _ c.read.ensures (omega arith) (omega arith) (λ e. omega arith))
+returns-then-read-ne0 c = rw (fill_next (goal.at.returns-then-read-ne0 c).After-read, ne_eqb c.read.result 0 (λ e. omega arith)) refl
+
+pub returns-in_err-check_entries : goal.returns-in_err-check_entries
+returns-in_err-check_entries c =
+    let exit = err_from_is_err_and c.from_residual.result c.from_residual.ensures.1 in
+    rw (exit.1, exit.2, fill_next (goal.at.returns-in_err-check_entries c).After-read, eq-eqb c.read.result 0 (omega arith))
+    (rw c.in_err-check_entries.was at c.check_entries.ensures)
 
 pub returns : goal.returns
 returns c =
-    c.check_entries.ensures
-    ∙ clean_fill (size_fits (omega arith) c.size_of-size.ensures (omega arith) (omega arith) (omega arith)) (omega arith)
-    c.read.result _ _ c.read.ensures (omega arith) (omega arith) (omega arith)
+    rw (fill_next (goal.at.returns c).After-read, eq-eqb c.read.result 0 (omega arith)) (rw c.in_ok-check_entries.was at c.check_entries.ensures)

@@ -5,5 +5,5 @@ use Rattle.tables.proofs.two_entries.Goals as goal
 
 pub returns : goal.returns
 returns c =
-    let read = c.five_bytes.ensures in
+    let read = c.five_bytes-both.ensures in
     (even_entry _ _ read (omega arith), odd_entry _ _ read (omega arith))

@@ -7,6 +7,3 @@ use Rattle.unpack.proofs.chain.Given as goal
 
 abbrev pub invariant-loop-two : goal.invariant-loop-two
 invariant-loop-two l = UnchangedBut (Filled l.pairs 0) l.w l.initial.w × (2 * l.two ≤ l.pairs) × Chained l.payload l.pairs (2 * l.two) l.w
-
-abbrev pub decreases-loop-two : goal.decreases-loop-two
-decreases-loop-two l = l.two

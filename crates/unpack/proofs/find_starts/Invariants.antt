@@ -1,11 +1,6 @@
 -- `unpack::find_starts`: the starts of the first signals are put, and the next one starts at e.
-use Rattle.std.proofs.Common.{◌-◌, ◌≤◌}
-use Rattle.units.specs.Limits.{most_signals}
 use Rattle.unpack.proofs.Starts.{Starting}
 use Rattle.unpack.proofs.find_starts.Given as goal
 
 abbrev pub invariant-loop-s : goal.invariant-loop-s
-invariant-loop-s l = (l.s ≤ l.signals) × Starting l.pairs l.s l.e l.initial.w l.w
-
-abbrev pub decreases-loop-s : goal.decreases-loop-s
-decreases-loop-s l = most_signals - l.s
+invariant-loop-s l = Starting l.pairs l.s l.e l.initial.w l.w

@@ -1,6 +1,6 @@
--- `enter::preparing::prepare` meets its contract: signals and channels are made ready, by the last law of proofs/Ready.
-use Rattle.enter.proofs.Ready.{ready_both}
+-- `enter::preparing::prepare` meets its contract: the copy and the fills prepare the area, by proofs/Ready.
+use Rattle.enter.proofs.Ready.{ready}
 use Rattle.enter.proofs.preparing.prepare.Goals as goal
 
 pub returns : goal.returns
-returns c = ready_both c.requires c.prepare_signals.ensures c.prepare_channels.ensures
+returns c = ready c.requires c.copy.ensures c.fill.ensures c.fill-2.ensures c.fill-3.ensures c.fill-4.ensures c.fill-5.ensures

@@ -12,13 +12,13 @@ small {j = j} ready h l e = omega (arith, cleared_is h (omega (arith, ready.few)
 
 pub put-requires : goal.put-requires
 put-requires c =
-    let h = c.loop-j.invariant.1 in (
-      omega (arith, c.requires.room, h.below.size, small c.requires h c.loop-j-test.true c.get-c.ensures.0),
+    let h = c.loop-j.invariant in (
+      omega (arith, c.requires.room, h.below.size, small c.requires h (omega arith) c.get-c.ensures.0),
       omega arith,
     )
 
 pub loop-j-preserved : goal.loop-j-preserved
 loop-j-preserved c =
-    let h = c.loop-j.invariant.1 in
+    let h = c.loop-j.invariant in
     let is = c.get-c.ensures.0 in
-    (omega arith, cleared_more h (omega (arith, c.requires.few)) is (small c.requires h c.loop-j-test.true is) c.put.ensures)
+    cleared_more h (omega (arith, c.requires.few)) is (small c.requires h (omega arith) is) c.put.ensures

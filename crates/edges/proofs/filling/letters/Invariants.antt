@@ -1,9 +1,0 @@
--- The index stays within the word, and what is left of it falls.
-use Rattle.std.proofs.Common.{◌-◌, ◌≤◌, length}
-use Rattle.edges.proofs.filling.letters.Given as goal
-
-abbrev pub invariant-loop-i : goal.invariant-loop-i
-invariant-loop-i l = l.i ≤ length l.word
-
-abbrev pub decreases-loop-i : goal.decreases-loop-i
-decreases-loop-i l = length l.word - l.i
