@@ -9,7 +9,7 @@ const MOST_AREA: usize = 8192;
 
 const MOST_WORK: usize = 16385;
 
-// A step by its word.
+// A step by its word, before it is known what else the line says: a line without a step is no case, whatever its words.
 #[derive(Clone, Copy)]
 enum Step {
     Open,

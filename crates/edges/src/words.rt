@@ -33,7 +33,8 @@ pub(crate) fn split_once(s: &[u8], b: u8) -> Option<(&[u8], &[u8])> {
     Some((&s[..at], &s[at + 1..]))
 }
 
-// The letters by which a word is told: of its last eight bytes, those from the first that is not 0 on.
+// The letters by which a word is told: of its last eight bytes, those from the first that is not 0 on. A word was once its last eight
+// bytes as one number, and what counts as a word stays.
 pub(crate) fn letters(word: &[u8]) -> &[u8] {
     let tail = &word[word.len().saturating_sub(8)..];
     let zeros = tail.iter().take_while(|&&b| b == 0).count();

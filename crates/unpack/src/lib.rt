@@ -18,13 +18,14 @@ pub fn unpack(payload: &[u8], w: &mut [u16], size: Size)
     ensures { Unpacked payload.now size w.old w.new }
 {
     let pairs = usize::from(size.pairs);
-    // Every rank's chain is empty: a rank has four bits.
+    // Every rank's chain is empty: a rank has four bits, and the number of pairs, which is no entry's, ends a chain.
     fill(w, FIRST, 16, pairs);
     chain(payload, w, pairs);
     find_starts(w, size.signals, pairs);
 }
 
-// The entries, from the last to the first, two by two: two entries are five whole bytes.
+// The entries, from the last to the first, two by two: two entries are five whole bytes. Its loop goes through indices, as that of
+// find_starts does: each turn writes the area that it reads.
 fn chain(payload: &[u8], w: &mut [u16], pairs: usize)
     requires { Unchained pairs w.old }
     ensures { Chained payload.now pairs 0 w.new × UnchangedBut (Filled pairs 0) w.new w.old }
@@ -48,7 +49,7 @@ fn chain_odd(payload: &[u8], w: &mut [u16], pairs: usize)
     }
 }
 
-// Entry e, whose 20 bits are at hand, is put before the chain of its rank.
+// Entry e, whose 20 bits are at hand, is put before the chain of its rank; packed, since two numbers of 16 bits hold it with its link.
 #[tactic(auto, using(crate::proofs::Links::linked))]
 fn link(w: &mut [u16], e: usize, entry: usize)
     requires { Linkable e entry w.old }
