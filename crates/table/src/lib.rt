@@ -30,8 +30,8 @@ fn judge(size: Size, floor: usize, i: usize, entry: usize) -> Result<(), Refusal
     Ok(())
 }
 
-// Judges the entries in turn. Two of them are five whole bytes, so they are read two by two, by index: what is read starts at any
-// byte of the payload, and unpacking, which takes them from the last to the first, has its own loop.
+// Judges the entries in turn. Two of them are five whole bytes, so they are read two by two; by index, since where they stand is
+// said in `tables` alone. Unpacking takes them from the last to the first, and has a loop of its own.
 #[tactic(auto, using(tables::proofs::Parts::few_ranks_in))]
 fn check_entries(payload: &[u8], size: Size) -> Result<(), Refusal>
     requires { size ≡ size_in payload.now }
