@@ -128,6 +128,7 @@ puts_more {s} {t} {z} {at} {u} {x} {n} p q =
 -- `room` bits from there to its end.
 pub record Writing (before : List ℕ) (at width value : ℕ) (now : List ℕ) (i room left : ℕ) : Type 0 where
   pub within : left ≤ width
+  pub some : 0 < room
   pub most : room ≤ 8
   pub place : left ≡ at + width - (8 * i + (8 - room))
   pub next : 8 * i < at + width → 8 * i + (8 - room) ≤ at + width
@@ -139,6 +140,7 @@ writing_none s at width value fits =
     let none : width - width ≡ 0 = omega arith in
     record {
       within = omega arith;
+      some = omega arith;
       most = omega arith;
       place = omega arith;
       next = λ l. omega arith;
@@ -154,6 +156,7 @@ pub writing_more : {s t : List ℕ} {at width value i room left : ℕ} (n right 
 writing_more {s} {t} {at} {width} {value} {i} {room} {left} n right later bits x w more within least in-byte in-value bytes is-bits is_byte_lem new =
     record {
       within = omega arith;
+      some = omega arith;
       most = omega arith;
       place = omega (arith, w.place);
       next = λ l. omega arith;

@@ -66,3 +66,8 @@ module _ (b area : List ℕ) {m r : ℕ} {after : List ℕ} (w : Heads m area r 
         answer = rw (le-ltb longest (length b) short, le-ltb (length area) (block_length (length b)) (omega (arith, long)), long) refl;
         bytes = rw (count, long) payload_behind;
       }
+
+  -- the same where the part's ends are told by other terms
+  pub framed_at : length b ≤ longest → (whole : ℕ) → whole ≡ block_length (length b) → whole ≤ length area → (from to : ℕ) → from ≡ r → to ≡ whole
+      → Frames b area (Ok (record { 0 = whole })) (put_mid from (to - from) after b)
+  framed_at short whole long fits from to starts ends = rw (starts, ends) (framed short whole long fits)

@@ -1,2 +1,3 @@
 -- What the C functions give.
 pub mod Exports
+pub mod Tightness

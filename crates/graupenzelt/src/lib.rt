@@ -90,6 +90,7 @@ impl From<Result<Ordering, Refusal>> for CompareReply {
     }
 }
 
+#[tactic(auto, unfolding(crate::specs::Exports::open_reply))]
 pub fn graupenzelt_open(block: &[u8]) -> OpenReply
     ensures { result ≡ open_reply (opening_of block.now) }
 {

@@ -93,27 +93,28 @@ module _ (s : List ℕ) where
       (λ d. record { j = k; few = omega arith; at = refl; digits = d; other = grind (arith, nat_tests) })
       (λ d. let f = first_spoils k d in record { j = f.j; few = omega (arith, f.few); at = f.at; digits = f.digits; other = f.other })
 
--- After i digits: they are digits, and count is the number they write, which is below 10 ^ i.
-pub record Counting (s : List ℕ) (count i : ℕ) : Type 0 where
+-- After i of k digits: they are digits, and count is the number they write, which is below 10 ^ i.
+pub record Counting (s : List ℕ) (k count i : ℕ) : Type 0 where
+  pub within : i ≤ k
   pub digits : digits_at2 s i ≡ true
   pub value : count ≡ count_at2 s i
   pub small : count < 10 ^ i
 
-pub counting_none : (s : List ℕ) → Counting s 0 0
+pub counting_none : (s : List ℕ) (k : ℕ) → Counting s k 0 0
 unfolding digits_at2 count_at2
-counting_none s = search rules
+counting_none s k = search rules
 
-pub counting_more : {s : List ℕ} {count i : ℕ} → Counting s count i → is_digit (get_or s (2 + i) 0) ≡ true
-    → Counting s (count * 10 + (get_or s (2 + i) 0 - 48)) (i + 1)
+pub counting_more : {s : List ℕ} {k count i : ℕ} → Counting s k count i → i < k → is_digit (get_or s (2 + i) 0) ≡ true
+    → Counting s k (count * 10 + (get_or s (2 + i) 0 - 48)) (i + 1)
 unfolding digits_at2 count_at2 is_digit
-counting_more {s} {count} {i} n digit =
-    rw (add-one i) (record { digits = rw n.digits digit; value = rw (← n.value) refl; small = grind (arith, nat_tests, pow-suc 10 i) })
+counting_more {s} {k} {count} {i} n l digit =
+    rw (add-one i) (record { within = omega arith; digits = rw n.digits digit; value = rw (← n.value) refl; small = grind (arith, nat_tests, pow-suc 10 i) })
 
 -- while a ninth digit is to come, the count has room in 64 bits
-pub counting_fits : {s : List ℕ} {count i : ℕ} → Counting s count i → i ≤ 9 → count < 1000000000
+pub counting_fits : {s : List ℕ} {k count i : ℕ} → Counting s k count i → i ≤ 9 → count < 1000000000
 counting_fits {i = i} n h = omega (arith, n.small, pow-le-pow_right {n = 10} (omega arith) {i = i} {j = 9} h)
 
 -- all digits read
-pub counted_read : {s : List ℕ} {k count : ℕ} → Counting s count k → counted_in s k ≡ Ok (counting (2 + k) count)
+pub counted_read : {s : List ℕ} {k count : ℕ} → Counting s k count k → counted_in s k ≡ Ok (counting (2 + k) count)
 unfolding counted_in
 counted_read n = rw (n.digits, ← n.value)

@@ -2,7 +2,7 @@
 -- what it refuses has a number from 1 to 3 (opening_refused). Leans on specs/Opening.
 use Prim.Native.Nat.{ℕ, ◌+◌, ◌≤◌}
 use mathlib.Core.Path.{◌≡◌, refl}
-use mathlib.Core.List.{List}
+use mathlib.Core.List.{List, []}
 use native.Mathlib.Omega.{arith}
 use lib.ListN.{length, take, drop}
 use Rattle.std.proofs.Common.{rules, tests}
@@ -53,6 +53,11 @@ part_inside s {part} = inside s (Ok part)
 pub part_payload : (s : List ℕ) {part : Part} → Ok part ≡ opening_of s → take part.length.0 (drop part.start s) ≡ payload_of s
 unfolding payload_of
 part_payload s e = rw (← e) refl
+
+-- A block that is refused has no payload.
+pub part_none : (s : List ℕ) {r : Refusal} → Err r ≡ opening_of s → [] ≡ payload_of s
+unfolding payload_of
+part_none s e = rw (← e) refl
 
 -- A refusal has one of the rows' numbers.
 

@@ -6,7 +6,7 @@ use Rattle.opening.proofs.Digits.{counting_none, counting_more, counting_fits, c
 use Rattle.opening.proofs.headers.read_count.Goals as goal
 
 pub loop-i-init : goal.loop-i-init
-loop-i-init c = counting_none _
+loop-i-init c = counting_none _ _
 
 pub returns-in_err-count : goal.returns-in_err-count
 returns-in_err-count c =
@@ -19,7 +19,7 @@ overflow_add-count c =
     omega (arith, counting_fits c.loop-i.invariant (omega arith), c.in_ok-count.ensures.1, digit_most _ c.in_ok-count.ensures.0)
 
 pub loop-i-preserved : goal.loop-i-preserved
-loop-i-preserved c = rw c.in_ok-count.ensures.1 (counting_more c.loop-i.invariant c.in_ok-count.ensures.0)
+loop-i-preserved c = rw c.in_ok-count.ensures.1 (counting_more c.loop-i.invariant (omega arith) c.in_ok-count.ensures.0)
 
 pub returns : goal.returns
 unfolding counting

@@ -1,0 +1,2 @@
+-- What every refusal's number has in common.
+pub mod Numbers
