@@ -4,6 +4,7 @@ use mathlib.Core.Path.{◌≡◌, refl, sym, ◌∙◌}
 use mathlib.Core.List.{List}
 use borrow.Author.Tests.{lt-ltb, le-ltb}
 use Rattle.std.specs.Result.{IsErrAnd}
+use Rattle.std.proofs.lemmas.Bool.Decides.{nat_tests}
 use Rattle.std.proofs.lemmas.Result.{err_from_is_err_and}
 use Rattle.std.specs.Prelude.{Result, Ok, Err}
 use Rattle.units.specs.declared.Bytes.{Bytes}
@@ -12,8 +13,9 @@ use Rattle.units.specs.declared.refusals.Refusal.{Refusal}
 use Rattle.units.specs.declared.refusals.Refusal.TheVariants.{NoRoom, NoWork}
 use Rattle.opening.specs.declared.headers.Part.{Part}
 use Rattle.opening.specs.Opening.{opening_of, payload_of}
+use Rattle.opening.proofs.Ending.{part_inside, part_payload}
 use Rattle.table.specs.Checking.{checked_of}
-use Rattle.table.proofs.Acceptance.{no_refusal}
+use Rattle.table.proofs.Acceptance.{no_refusal, accepted_limits}
 use Rattle.work.specs.Work.{NUMBERS}
 use Rattle.command.specs.Handling.{reply_length, room_for, after_checking, after_opening, verdict_of, Answered, Replies}
 
@@ -74,3 +76,6 @@ module _ (block : List ℕ) (m k : ℕ) where
     pub accepted : {z : Size} {n : ℕ} → checked_of p ≡ Ok z → n ≡ reply_length z → verdict_of block m k ≡ room_for n m k
     unfolding verdict_of after_opening after_checking
     accepted sound long = rw (opened, ← same, sound, long) refl
+
+-- What the code of `handle` goes by on its way through the rows.
+pub ruleset findings = (nat_tests, part_inside, part_payload, accepted_limits)

@@ -14,6 +14,7 @@ use work::NUMBERS;
 
 // Handles a whole command block (rows 1 to 11), and says how many bytes its answer's block has. Nothing is written before all rows
 // are decided.
+#[tactic(auto, using(crate::proofs::Deciding::findings), unfolding(crate::specs::Handling::verdict_of, crate::specs::Handling::after_opening, crate::specs::Handling::after_checking, crate::specs::Handling::room_for, crate::specs::Handling::reply_length))]
 pub fn handle(block: &[u8], area: &mut [u8], work: &mut [u16]) -> Result<Bytes, Refusal>
     ensures { Handles block.now area.old work.old result area.new work.new }
 {
