@@ -3,23 +3,24 @@ ghost use Rattle.std.specs.Prelude.{◌<◌, IfSome};
 
 use crate::reading::Fault;
 use crate::words::{letters, number, split_once};
-use std::alloc::Global;
+use arrayvec::ArrayVec;
 use std::ops::Range;
 
 // The most bytes that a case may have.
 const MOST_BYTES: usize = 8192;
 
-// Bytes, and the first digit of one more where it stands there without its second.
+// Bytes, and the first digit of one more where it stands there without its second. They lie in the value itself: no case runs out of
+// memory.
 #[derive(Drop)]
 pub(crate) struct Digits {
-    bytes: Vec<u8>,
+    bytes: ArrayVec<u8, MOST_BYTES>,
     half: Option<u8>,
 }
 
 impl Digits {
-    pub(crate) fn new(alloc: Global) -> Self {
+    pub(crate) fn new() -> Self {
         Digits {
-            bytes: Vec::new(alloc),
+            bytes: ArrayVec::new(),
             half: None,
         }
     }
@@ -32,27 +33,44 @@ impl Digits {
         }
     }
 
-    pub(crate) fn into_bytes(self) -> Result<Vec<u8>, Fault> {
+    pub(crate) fn bytes(&self) -> Result<&[u8], Fault> {
         self.len()?;
-        Ok(self.bytes)
+        Ok(self.bytes.as_slice())
+    }
+
+    fn push(&mut self, byte: u8) -> Result<(), Fault> {
+        self.bytes.try_push(byte).map_err(|_| Fault::NoBytes)
+    }
+
+    // The first digit of a byte for which there is room.
+    fn first(&mut self, digit: u8) -> Result<(), Fault>
+        requires { digit < 16 }
+    {
+        if self.bytes.is_full() {
+            return Err(Fault::NoBytes);
+        }
+        self.half = Some(digit * 16);
+        Ok(())
     }
 
     fn digit(&mut self, digit: u8) -> Result<(), Fault>
         requires { digit < 16 }
     {
-        if self.bytes.len() == MOST_BYTES {
-            return Err(Fault::NoBytes);
-        }
         match self.half.take() {
-            Some(first) => self.bytes.push(first | digit)?,
-            None => self.half = Some(digit * 16),
+            Some(first) => self.push(first | digit),
+            None => self.first(digit),
         }
-        Ok(())
     }
 
+    // Both digits at once: most runs are whole bytes.
     fn byte(&mut self, byte: u8) -> Result<(), Fault> {
-        self.digit(byte / 16)?;
-        self.digit(byte % 16)
+        match self.half.take() {
+            Some(first) => {
+                self.push(first | byte / 16)?;
+                self.first(byte % 16)
+            }
+            None => self.push(byte),
+        }
     }
 
     fn hexadecimal(&mut self, word: &[u8]) -> Result<(), Fault> {
@@ -78,22 +96,32 @@ impl Digits {
         self.digit(if signal == channel { 1 } else { other })
     }
 
-    // What stands at index i of a run.
-    fn item(&mut self, what: &[u8], i: usize) -> Result<(), Fault> {
-        match letters(what) {
-            b"ramp" => self.byte((i % 251) as u8),
-            b"pair" => self.entry(i / 16, i % 16, 1),
-            b"own" => self.entry(i / 15, i % 15, 2),
-            _ => self.hexadecimal(what),
-        }
-    }
-
+    // What a run repeats is told once, before it runs.
     fn run(&mut self, what: &[u8], indices: Range<usize>) -> Result<(), Fault> {
         if indices.is_empty() {
             return Err(Fault::NoBytes);
         }
-        for i in indices {
-            self.item(what, i)?;
+        match letters(what) {
+            b"ramp" => {
+                for i in indices {
+                    self.byte((i % 251) as u8)?;
+                }
+            }
+            b"pair" => {
+                for i in indices {
+                    self.entry(i / 16, i % 16, 1)?;
+                }
+            }
+            b"own" => {
+                for i in indices {
+                    self.entry(i / 15, i % 15, 2)?;
+                }
+            }
+            _ => {
+                for _ in indices {
+                    self.hexadecimal(what)?;
+                }
+            }
         }
         Ok(())
     }

@@ -8,21 +8,23 @@ mod say;
 mod trying;
 mod words;
 
+use digits::Digits;
 use reading::Case;
 use std::io::{self, Read};
 
 // Line n: a case, or a remark. What is neither is said.
-fn line(rt: &(impl Print + AllocGlobal), text: &[u8], n: usize) -> io::Result<()> {
+fn line(rt: &impl Print, text: &[u8], n: usize) -> io::Result<()> {
     if text.starts_with(b"#") {
         return Ok(());
     }
-    match Case::read(rt.alloc(), text) {
+    let mut digits = Digits::new();
+    match Case::read(text, &mut digits) {
         Ok(case) => trying::run(rt, &case),
         Err(fault) => println!(rt; "line {n}: {fault}"),
     }
 }
 
-fn lines(rt: &(impl Print + AllocGlobal), input: &[u8]) -> io::Result<()> {
+fn lines(rt: &impl Print, input: &[u8]) -> io::Result<()> {
     for (n, text) in (1..).zip(input.split_inclusive(|&b| b == b'\n')) {
         line(rt, text.strip_suffix(b"\n").unwrap_or(text), n)?;
     }

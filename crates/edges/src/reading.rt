@@ -1,13 +1,12 @@
 // Reading a case: a name, and behind the colon the step and its words.
 use crate::digits::Digits;
 use crate::words::{Words, letters, number, split_once};
-use std::alloc::{AllocFailed, Global};
 use std::fmt;
 
 // The largest areas that may be lent, in bytes and in numbers.
-const MOST_AREA: usize = 8192;
+pub(crate) const MOST_AREA: usize = 8192;
 
-const MOST_WORK: usize = 16385;
+pub(crate) const MOST_WORK: usize = 16385;
 
 // A step by its word, before it is known what else the line says: a line without a step is no case, whatever its words.
 #[derive(Clone, Copy)]
@@ -34,14 +33,13 @@ impl TryFrom<&[u8]> for Step {
     }
 }
 
-// What is wrong with a line; where several things are, the first of the first four.
+// What is wrong with a line; where several things are, the first of them.
 #[derive(Clone, Copy, Debug)]
 pub(crate) enum Fault {
     NoCase,
     NoBytes,
     WrongSizes,
     HalfByte,
-    OutOfMemory,
 }
 
 impl fmt::Display for Fault {
@@ -52,14 +50,7 @@ impl fmt::Display for Fault {
             Fault::WrongSizes =>
                 "with, area= or work= too much, missing or too large for this step",
             Fault::HalfByte => "half a byte",
-            Fault::OutOfMemory => "out of memory",
         })
-    }
-}
-
-impl<T: Drop> From<AllocFailed<T>> for Fault {
-    fn from(_e: AllocFailed<T>) -> Fault {
-        Fault::OutOfMemory
     }
 }
 
@@ -112,29 +103,28 @@ impl Sizes {
 pub(crate) struct Case<'a> {
     pub(crate) name: &'a [u8],
     pub(crate) trial: Trial,
-    pub(crate) bytes: Vec<u8>,
+    pub(crate) bytes: &'a [u8],
 }
 
 impl<'a> Case<'a> {
-    // The case that a line says.
-    pub(crate) fn read(alloc: Global, line: &'a [u8]) -> Result<Self, Fault> {
+    // The case that a line says, whose bytes go into digits.
+    pub(crate) fn read(line: &'a [u8], digits: &'a mut Digits) -> Result<Self, Fault> {
         let (name, words) = split_once(line, b':').ok_or(Fault::NoCase)?;
         let mut words = Words(words);
         let step = words
             .find(|word| !matches!(letters(word), b"" | b" "))
             .ok_or(Fault::NoCase)?;
         let step = Step::try_from(step)?;
-        let mut digits = Digits::new(alloc);
         let mut sizes = Sizes {
             split: Ok(None),
             area: Ok(None),
             work: Ok(None),
         };
         for word in words {
-            read_word(word, &mut digits, &mut sizes)?;
+            read_word(word, digits, &mut sizes)?;
         }
         let trial = sizes.suit(step)?;
-        let bytes = digits.into_bytes()?;
+        let bytes = digits.bytes()?;
         Ok(Case { name, trial, bytes })
     }
 }

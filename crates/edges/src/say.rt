@@ -51,7 +51,9 @@ impl Share {
     // How many of s are x.
     pub(crate) fn of<T: PartialEq + Copy>(s: &[T], x: T) -> Self {
         Share {
-            right: s.iter().filter(|&&y| y == x).count(),
+            right: s
+                .iter()
+                .fold(0, |n: usize, &y| n.wrapping_add(usize::from(y == x))),
             all: s.len(),
         }
     }
@@ -59,7 +61,10 @@ impl Share {
     // How many bytes of a stand in b at the same index.
     pub(crate) fn same(a: &[u8], b: &[u8]) -> Self {
         Share {
-            right: a.iter().zip(b).filter(|(x, y)| x == y).count(),
+            right: a
+                .iter()
+                .zip(b)
+                .fold(0, |n: usize, (x, y)| n.wrapping_add(usize::from(x == y))),
             all: a.len(),
         }
     }

@@ -1,5 +1,5 @@
 // Trying a step: what it answers, and what stands then in the lent areas, which are marked before.
-use crate::reading::{Case, Trial};
+use crate::reading::{Case, MOST_AREA, MOST_WORK, Trial};
 use crate::say::{Hexadecimal, Opened, Outcome, Share};
 use graupenzelt::{OpenReply, Reply};
 use std::io;
@@ -14,9 +14,9 @@ const NUMBER: u16 = 42405;
 const CLEARED: usize = 16384;
 
 // Tries a case.
-pub(crate) fn run(rt: &(impl Print + AllocGlobal), case: &Case<'_>) -> io::Result<()> {
+pub(crate) fn run(rt: &impl Print, case: &Case<'_>) -> io::Result<()> {
     rt.write_all(case.name)?;
-    let bytes = case.bytes.as_slice();
+    let bytes = case.bytes;
     match case.trial {
         Trial::Open => open(rt, bytes)?,
         Trial::Check => check(rt, bytes)?,
@@ -70,16 +70,17 @@ fn written(seen: Reply, area: &[u8]) -> Option<(&[u8], &[u8])> {
 }
 
 // Frames in an area of so many bytes.
-fn frame(rt: &(impl Print + AllocGlobal), payload: &[u8], bytes: usize) -> io::Result<()> {
-    let mut area = vec![in rt.alloc(); BYTE; bytes]?;
-    let seen = graupenzelt::graupenzelt_frame(payload, &mut area);
+fn frame(rt: &impl Print, payload: &[u8], bytes: usize) -> io::Result<()> {
+    let mut area = [BYTE; MOST_AREA];
+    let area = &mut area[..bytes.min(MOST_AREA)];
+    let seen = graupenzelt::graupenzelt_frame(payload, area);
     print!(rt; ": frame {} length {}", Outcome(seen.status), seen.length)?;
-    match written(seen, &area) {
+    match written(seen, area) {
         Some((block, later)) => {
             framed(rt, payload, block)?;
             print!(rt; ", later bytes kept {}", Share::of(later, BYTE))
         }
-        None => print!(rt; ", bytes kept {}", Share::of(&area, BYTE)),
+        None => print!(rt; ", bytes kept {}", Share::of(area, BYTE)),
     }
 }
 
@@ -96,30 +97,27 @@ fn framed(rt: &impl Print, payload: &[u8], block: &[u8]) -> io::Result<()> {
 }
 
 // Handles with areas of so many bytes and numbers.
-fn handle(
-    rt: &(impl Print + AllocGlobal),
-    block: &[u8],
-    bytes: usize,
-    numbers: usize,
-) -> io::Result<()> {
-    let mut area = vec![in rt.alloc(); BYTE; bytes]?;
-    let mut work = vec![in rt.alloc(); NUMBER; numbers]?;
-    let seen = graupenzelt::graupenzelt_handle(block, &mut area, &mut work);
+fn handle(rt: &impl Print, block: &[u8], bytes: usize, numbers: usize) -> io::Result<()> {
+    let mut area = [BYTE; MOST_AREA];
+    let mut work = [NUMBER; MOST_WORK];
+    let area = &mut area[..bytes.min(MOST_AREA)];
+    let work = &mut work[..numbers.min(MOST_WORK)];
+    let seen = graupenzelt::graupenzelt_handle(block, area, work);
     print!(rt; ": handle {} length {}", Outcome(seen.status), seen.length)?;
-    match written(seen, &area) {
+    match written(seen, area) {
         Some((block, later)) => {
             print!(rt;
                 ", block {}, later bytes kept {}",
                 Hexadecimal(block),
                 Share::of(later, BYTE)
             )?;
-            cleared(rt, &work)
+            cleared(rt, work)
         }
         None => {
             print!(rt;
                 ", bytes kept {}, numbers kept {}",
-                Share::of(&area, BYTE),
-                Share::of(&work, NUMBER)
+                Share::of(area, BYTE),
+                Share::of(work, NUMBER)
             )
         }
     }
