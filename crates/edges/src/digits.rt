@@ -96,34 +96,17 @@ impl Digits {
         self.digit(if signal == channel { 1 } else { other })
     }
 
-    // What a run repeats is told once, before it runs.
-    fn run(&mut self, what: &[u8], indices: Range<usize>) -> Result<(), Fault> {
+    // What a run repeats is told once, and not at each index.
+    fn run(&mut self, what: &[u8], mut indices: Range<usize>) -> Result<(), Fault> {
         if indices.is_empty() {
             return Err(Fault::NoBytes);
         }
         match letters(what) {
-            b"ramp" => {
-                for i in indices {
-                    self.byte((i % 251) as u8)?;
-                }
-            }
-            b"pair" => {
-                for i in indices {
-                    self.entry(i / 16, i % 16, 1)?;
-                }
-            }
-            b"own" => {
-                for i in indices {
-                    self.entry(i / 15, i % 15, 2)?;
-                }
-            }
-            _ => {
-                for _ in indices {
-                    self.hexadecimal(what)?;
-                }
-            }
+            b"ramp" => indices.try_for_each(|i| self.byte((i % 251) as u8)),
+            b"pair" => indices.try_for_each(|i| self.entry(i / 16, i % 16, 1)),
+            b"own" => indices.try_for_each(|i| self.entry(i / 15, i % 15, 2)),
+            _ => indices.try_for_each(|_| self.hexadecimal(what)),
         }
-        Ok(())
     }
 
     // The bytes that a word says.
