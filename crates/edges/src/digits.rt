@@ -42,7 +42,7 @@ impl Digits {
         self.bytes.try_push(byte).map_err(|_| Fault::NoBytes)
     }
 
-    // The first digit of a byte for which there is room.
+    // The first digit of one byte more, where there is room for it.
     fn first(&mut self, digit: u8) -> Result<(), Fault>
         requires { digit < 16 }
     {
@@ -62,7 +62,7 @@ impl Digits {
         }
     }
 
-    // Both digits at once: most runs are whole bytes.
+    // Both digits at once where none waits for its second, as in most cases.
     fn byte(&mut self, byte: u8) -> Result<(), Fault> {
         match self.half.take() {
             Some(first) => {

@@ -69,7 +69,7 @@ fn written(seen: Reply, area: &[u8]) -> Option<(&[u8], &[u8])> {
     }
 }
 
-// Frames in an area of so many bytes.
+// Frames in an area of so many bytes, which are at most those of the array: a step's sizes suit it.
 fn frame(rt: &impl Print, payload: &[u8], bytes: usize) -> io::Result<()> {
     let mut area = [BYTE; MOST_AREA];
     let area = &mut area[..bytes.min(MOST_AREA)];
@@ -96,7 +96,7 @@ fn framed(rt: &impl Print, payload: &[u8], block: &[u8]) -> io::Result<()> {
     print!(rt; ", opened {}, payload right {right}", Opened(seen))
 }
 
-// Handles with areas of so many bytes and numbers.
+// Handles with areas of so many bytes and numbers, within the arrays as above. No area is allocated, so that no case runs out of memory.
 fn handle(rt: &impl Print, block: &[u8], bytes: usize, numbers: usize) -> io::Result<()> {
     let mut area = [BYTE; MOST_AREA];
     let mut work = [NUMBER; MOST_WORK];
