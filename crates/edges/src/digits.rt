@@ -9,8 +9,8 @@ use std::ops::Range;
 // The most bytes that a case may have.
 const MOST_BYTES: usize = 8192;
 
-// Bytes, and the first digit of one more where it stands there without its second. They lie in the value itself: no case runs out of
-// memory.
+// Bytes, and the first digit of one more where it stands there without its second. They lie in the value itself: no case runs out
+// of memory.
 #[derive(Drop)]
 pub(crate) struct Digits {
     bytes: ArrayVec<u8, MOST_BYTES>,

@@ -96,7 +96,8 @@ fn framed(rt: &impl Print, payload: &[u8], block: &[u8]) -> io::Result<()> {
     print!(rt; ", opened {}, payload right {right}", Opened(seen))
 }
 
-// Handles with areas of so many bytes and numbers, within the arrays as above. No area is allocated, so that no case runs out of memory.
+// Handles with areas of so many bytes and numbers, within the arrays as above. No area is allocated, so that no case runs out of
+// memory.
 fn handle(rt: &impl Print, block: &[u8], bytes: usize, numbers: usize) -> io::Result<()> {
     let mut area = [BYTE; MOST_AREA];
     let mut work = [NUMBER; MOST_WORK];

@@ -67,7 +67,10 @@ module _ (b area : List ℕ) {m r : ℕ} {after : List ℕ} (w : Heads m area r 
         bytes = rw (count, long) payload_behind;
       }
 
-  -- the same where the part's ends are told by other terms
-  pub framed_at : length b ≤ longest → (whole : ℕ) → whole ≡ block_length (length b) → whole ≤ length area → (from to : ℕ) → from ≡ r → to ≡ whole
-      → Frames b area (Ok (record { 0 = whole })) (put_mid from (to - from) after b)
-  framed_at short whole long fits from to starts ends = rw (starts, ends) (framed short whole long fits)
+  -- the same where it is told by other terms where the part starts and how long it is
+  pub framed_at : length b ≤ longest → (whole : ℕ) → whole ≡ block_length (length b) → whole ≤ length area → (from count : ℕ) → from ≡ r
+      → count ≡ length b → Frames b area (Ok (record { 0 = whole })) (put_mid from count after b)
+  unfolding block_length
+  framed_at short whole long fits from count starts counted =
+      let same : count ≡ whole - r = omega (arith, head.answer) in
+      rw (starts, same) (framed short whole long fits)

@@ -1,7 +1,8 @@
 -- A whole command as C is told of it, by the reply's number. Any but 0 is a refusal, which writes nothing (told_refused); 0 is an answer
--- (told_answered), and that is the verdict of the rows (told_says). The theorems of `command` hold of such replies: number 0 is an answer that holds a best plan (told_answer); two replies agree in all but the places (told_tight); a block that gets
--- number 0 is short (told_short); and who refuses, leaves the area as it was, or sends the same places for every table does not meet
--- the promise (told_refuses_all_falls_short, told_untouched_falls_short, told_fixed_plan_falls_short).
+-- (told_answered), and that is the verdict of the rows (told_says). The theorems of `command` hold of such replies: number 0 is an
+-- answer that holds a best plan (told_answer); two replies agree in all but the places (told_tight); a block that gets number 0 has an
+-- accepted payload and is short (told_sound, told_short); and who refuses, leaves the area as it was, or sends the same places for every
+-- table does not meet the promise (told_refuses_all_falls_short, told_untouched_falls_short, told_fixed_plan_falls_short).
 use Prim.Native.Nat.{ℕ, ◌≤◌, ◌<◌}
 use mathlib.Core.Path.{◌≡◌, refl, ap, sym, ◌∙◌}
 use mathlib.Core.List.{List}
@@ -19,7 +20,7 @@ use Rattle.command.specs.Answers.{AnswerTo}
 use Rattle.command.specs.Handling.{verdict_of, Answered, Refused}
 use Rattle.command.specs.Tightness.{SameReply, listing_only}
 use Rattle.command.proofs.Laws.{handled_answer}
-use Rattle.command.proofs.Tight.{handle_tight, accepted_short, untouched_falls_short}
+use Rattle.command.proofs.Tight.{handle_tight, answered_sound, accepted_short, untouched_falls_short}
 use Rattle.command.proofs.FixedPlan.{fixed_plan_falls_short}
 use Rattle.graupenzelt.specs.declared.Reply.{Reply}
 use Rattle.graupenzelt.specs.Exports.{block_reply, HandlesInto}
@@ -92,7 +93,10 @@ told_tight block area work r r' a a' w w' told told' =
     behind (Ok n) both found = rw (found_length (told.reply ∙ ap block_reply found)) (both.behind n found)
     behind (Err e) both found = ap (drop r.length) (both.refused_bytes e found)
 
--- A block that gets number 0 is shorter than 8,192 bytes.
+-- A block that gets number 0 has an accepted payload, and is shorter than 8,192 bytes.
+pub told_sound : (block : List ℕ) (m k : ℕ) → (status_of (verdict_of block m k)).number ≡ 0 → Sound (payload_of block)
+told_sound block m k number = by_number _ number (λ n success. answered_sound block m k success)
+
 pub told_short : (block : List ℕ) (m k : ℕ) → (status_of (verdict_of block m k)).number ≡ 0 → length block < 8192
 told_short block m k number = by_number _ number (λ n success. accepted_short block m k success)
 
