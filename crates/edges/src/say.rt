@@ -47,7 +47,7 @@ pub(crate) struct Share {
     all: usize,
 }
 
-// Both fold: the compiler makes vectors of a fold, but not of `filter` and `count`. No slice is so long that the number wraps.
+// Both fold: in a fold the compiler takes many elements at once, behind `filter` one by one. No slice is so long that the number wraps.
 impl Share {
     // How many of s are x.
     pub(crate) fn of<T: PartialEq + Copy>(s: &[T], x: T) -> Self {
